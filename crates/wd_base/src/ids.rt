@@ -159,4 +159,3 @@ impl Same for Ip4 {
         self.0 == other.0
     }
 }
-

@@ -1,8 +1,9 @@
-ghost use Rattle.std.specs.Prelude.{◌≡◌, IfOk, ℤ};
+ghost use Rattle.std.specs.Prelude.{◌≡◌, ◌++◌, IfOk, OnOk, flat_map};
 ghost use Rattle.std.specs.Fmt.{signed_decimal};
-ghost use Rattle.std.specs.Str.{encode_utf8_all};
+ghost use Rattle.std.specs.Str.{chars, encode_utf8_all};
+ghost use Rattle.std.specs.Char.Escape.{encode_utf16};
 ghost use Rattle.std.specs.Char.Utf16.{utf16_lossy_chars};
-ghost use Rattle.wd_base.specs.Text.{IsUnitsOf, unmarked};
+ghost use Rattle.wd_base.specs.Text.{utf16_of, unmarked};
 
 use crate::http::{Bytes, Units};
 use crate::ids::NoMemory;
@@ -12,15 +13,10 @@ use std::alloc::Global;
 /// The UTF-16 of UTF-8 bytes, without one leading byte order mark, and with U+FFFD for each
 /// sequence that is not UTF-8 (as the Encoding Standard's "UTF-8 decode").
 pub fn units_of(alloc: Global, bytes: &[u8]) -> Result<Units, NoMemory>
-    ensures { IfOk result (λ units. IsUnitsOf units bytes.now) }
+    ensures { IfOk result (λ units. units ≡ utf16_of bytes.now) }
 {
     let text = String::from_utf8_lossy(alloc, without_mark(bytes))?;
-    let mut units = Vec::with_capacity(alloc, bytes.len())?;
-    for c in text.chars() {
-        let mut pair = [0; 2];
-        units.extend_from_slice(c.encode_utf16(&mut pair))?;
-    }
-    Ok(Seq::from_vec(units))
+    encoded(alloc, text.as_str())
 }
 
 /// The UTF-8 of UTF-16 units, each lone surrogate as U+FFFD.
@@ -46,4 +42,22 @@ fn without_mark(bytes: &[u8]) -> &[u8]
         Some(rest) => rest,
         None => bytes,
     }
+}
+
+fn encoded(alloc: Global, text: &str) -> Result<Units, NoMemory>
+    ensures { IfOk result (λ units. units ≡ flat_map encode_utf16 (chars text.now)) }
+{
+    let mut units = Vec::with_capacity(alloc, text.len())?;
+    for c in text.chars() {
+        push_units(&mut units, c)?;
+    }
+    Ok(Seq::from_vec(units))
+}
+
+fn push_units(units: &mut Vec<u16>, c: char) -> Result<(), NoMemory>
+    ensures { OnOk result (units.new.items ≡ units.old.items ++ encode_utf16 c) }
+{
+    let mut pair = [0; 2];
+    units.extend_from_slice(c.encode_utf16(&mut pair))?;
+    Ok(())
 }
