@@ -51,29 +51,3 @@ mem_shut p items n e = mem_changed p items n with_shut e
 pub mem_given : (p : MemPort) (items : List MemLink) (origin : LinkOrigin) (source : Source) → items ≡ p.links.items ++ new_mem origin source ∷ [] → with_links p items ≡ given_on origin (mem_told p)
 unfolding given_on
 mem_given p items origin source e = ap (with_links p) e ∙ rw (length-append, map-append)
-
--- a fault is counted in its part alone
-pub blames_more : {T : Type 0} (p : Part) (f g : Faults) → g ≡ with_part p f (min (part p f + 1) 18446744073709551615) → part p f ≤ 18446744073709551615 → Blames {T = T} p f g (Err Fault)
-blames_more p f g e h = record {
-  later = rw e (rw part_of_with (omega (arith, h)));
-  own = e ∙ ap (with_part p f) (sym (ap (part p) e ∙ part_of_with p f _));
-  fault = λ _. rw e (rw part_of_with (omega arith));
-  memory = λ c. absurd (cc);
-}
-
--- the files' parts change nothing in that of a read or a write on a link
-pub read_side : (d : Side) (f g : Faults) (h : FileFaults) → g ≡ with_part (ReadLink d) f (min (part (ReadLink d) f + 1) 18446744073709551615) → record g { files = h } ≡ with_part (ReadLink d) (record f { files = h }) (min (part (ReadLink d) (record f { files = h }) + 1) 18446744073709551615)
-read_side Accepted f g h e = ap (λ (x : Faults). record x { files = h }) e
-read_side Connected f g h e = ap (λ (x : Faults). record x { files = h }) e
-
-pub write_side : (d : Side) (f g : Faults) (h : FileFaults) → g ≡ with_part (WriteLink d) f (min (part (WriteLink d) f + 1) 18446744073709551615) → record g { files = h } ≡ with_part (WriteLink d) (record f { files = h }) (min (part (WriteLink d) (record f { files = h }) + 1) 18446744073709551615)
-write_side Accepted f g h e = ap (λ (x : Faults). record x { files = h }) e
-write_side Connected f g h e = ap (λ (x : Faults). record x { files = h }) e
-
-pub read_fits : (d : Side) (f : Faults) (h : FileFaults) → part (ReadLink d) f ≤ 18446744073709551615 → part (ReadLink d) (record f { files = h }) ≤ 18446744073709551615
-read_fits Accepted f h l = l
-read_fits Connected f h l = l
-
-pub write_fits : (d : Side) (f : Faults) (h : FileFaults) → part (WriteLink d) f ≤ 18446744073709551615 → part (WriteLink d) (record f { files = h }) ≤ 18446744073709551615
-write_fits Accepted f h l = l
-write_fits Connected f h l = l

@@ -13,6 +13,8 @@ mod port;
 mod schedule;
 mod send;
 mod sink;
+#[cfg(test)]
+mod tests;
 mod told;
 
 pub use gate::{Gate, NoGate};

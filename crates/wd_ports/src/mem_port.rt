@@ -126,6 +126,16 @@ impl MemPort {
         &self.files
     }
 
+    /// The parts of its count, its files' among them.
+    pub fn count(&self) -> Faults
+        ensures { result ≡ mem_faults self.now }
+    {
+        Faults {
+            files: self.files.faults,
+            ..self.faults
+        }
+    }
+
     /// How often its calls have failed, its files' among them: the sum of the parts of its count,
     /// at most the greatest u64.
     pub fn fails(&self) -> u64
