@@ -33,6 +33,14 @@ abbrev pub unless_same : Bool → OutField → Option OutField → Option OutFie
 unless_same true field rest = rest
 unless_same false field rest = Some field
 
+-- the first of the last four fields in which two `Out`s differ
+abbrev pub last_difference : Out → Out → Option OutField
+last_difference a b =
+    unless_same (is_same coded_bool a.condemned b.condemned) Condemned
+    (unless_same (is_same coded_bool a.heavy b.heavy) Heavy
+    (unless_same (is_same (coded_list (coded_list coded_ℕ)) a.logs b.logs) Logs
+    (unless_same (a.steps == b.steps) Steps None)))
+
 -- the first field in which two `Out`s differ, in the order of their declaration
 abbrev pub first_difference : Out → Out → Option OutField
 first_difference a b =
@@ -46,7 +54,4 @@ first_difference a b =
     (unless_same (a.waits == b.waits) Waits
     (unless_same (is_same (coded_list (coded× req.the_row.coded job.the_row.coded)) a.cross b.cross) Cross
     (unless_same (is_same (coded_list obj_name.the_row.coded) a.released b.released) Released
-    (unless_same (is_same coded_bool a.condemned b.condemned) Condemned
-    (unless_same (is_same coded_bool a.heavy b.heavy) Heavy
-    (unless_same (is_same (coded_list (coded_list coded_ℕ)) a.logs b.logs) Logs
-    (unless_same (a.steps == b.steps) Steps None)))))))))))))
+    (last_difference a b))))))))))
