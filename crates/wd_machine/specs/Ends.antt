@@ -8,7 +8,7 @@ use Rattle.wd_base.specs.declared.ids.Obj.{Obj}
 use Rattle.wd_machine.specs.declared.state.RequestState.{RequestState}
 use Rattle.wd_machine.specs.declared.state.Waiter.{Waiter}
 use Rattle.wd_machine.specs.declared.turn.Out.{Out}
-use Rattle.wd_machine.specs.Meaning.{has_number, numbers}
+use Rattle.wd_machine.specs.Meaning.{has_obj}
 
 -- `content-type`
 abbrev pub content_type : List ℕ
@@ -56,7 +56,7 @@ whole_out r waiting out = record out { reply = whole_reply r waiting out }
 
 -- the objects that are not among those that were freed
 abbrev pub without : List Obj → List Obj → List Obj
-without freed objs = filter (λ o. not (has_number (numbers freed) o.0)) objs
+without freed objs = filter (λ o. not (has_obj freed o.0)) objs
 
 -- the objects that are left when the turn has freed its own
 abbrev pub left_live : RequestState → Out → List Obj

@@ -2,7 +2,6 @@
 use Rattle.std.specs.Prelude.{ℕ, ◌==◌, nat_lt, nat_le, Bool, true, false, not, ◌&&◌, List, [], ◌∷◌, length, Option, Some, None, is_some, is_none}
 use Rattle.wd_base.specs.declared.config.Config.{Config}
 use Rattle.wd_base.specs.declared.ids.Req.{Req}
-use Rattle.wd_base.specs.declared.ids.Seat.{Seat}
 use Rattle.wd_base.specs.declared.objects.Origin.{Origin}
 use Rattle.wd_base.specs.declared.objects.Origin.TheVariants.{Outside, Child, Caller}
 use Rattle.wd_graph.specs.Names.{service_of, is_public}
@@ -22,6 +21,7 @@ use Rattle.wd_machine.specs.declared.state.Waiter.{Waiter}
 use Rattle.wd_machine.specs.declared.state.WorkerState.{WorkerState}
 use Rattle.wd_machine.specs.declared.turn.Out.{Out}
 use Rattle.wd_machine.specs.declared.turn.OutField.{OutField}
+use Rattle.wd_machine.specs.Entries.{seat_of}
 use Rattle.wd_machine.specs.Ends.{waits_in, whole_out}
 use Rattle.wd_machine.specs.Found.{request_of, worker_for, waiters_at, waiting, front, holder_of, run_on, due_on}
 use Rattle.wd_machine.specs.Same.{first_difference}
@@ -50,16 +50,6 @@ is_open world (Part service) name = false
 abbrev pub is_whole : Head → Bool
 is_whole Whole = true
 is_whole (Part service) = false
-
--- the seat of an entry
-abbrev pub seat_of : Entry → Seat
-seat_of (Arrive seat req service origin allow request) = seat
-seat_of (Begin seat req) = seat
-seat_of (Turn seat req out) = seat
-seat_of (Answer seat req op result) = seat
-seat_of (Served seat req reply) = seat
-seat_of (Cancel seat req) = seat
-seat_of (Drain seat) = seat
 
 -- A5 to A8: the origin. A child arrives as its seat's front duty, and there are no duties yet
 abbrev pub broken_origin : Bool → Bool → List ℕ → Origin → ℕ → Option Refused

@@ -23,7 +23,7 @@ use Rattle.wd_machine.specs.declared.ends.Done.{Done}
 use Rattle.wd_machine.specs.Ends.{waits_in, ends, whole_reply, whole_out, left_live, freed_by}
 use Rattle.wd_machine.specs.Found.{is_request, is_worker, request_of, worker_of, worker_for, waiters_at}
 use Rattle.wd_machine.specs.Keyed.{change}
-use Rattle.wd_machine.specs.Meaning.{Meaning, TurnIn, TurnGives, has_number, numbers, spent}
+use Rattle.wd_machine.specs.Meaning.{Meaning, TurnIn, TurnGives, has_obj, spent}
 
 -- one more waits, behind the others
 abbrev pub waits_too : {I : Type 0} → Waiter → WorkerState I → WorkerState I
@@ -102,7 +102,7 @@ named req obj = record { req = req; obj = obj }
 
 -- the objects of a request that are left when these are freed
 abbrev pub kept_objects : List Obj → List IoObject → List IoObject
-kept_objects freed objects = filter (λ o. not (has_number (numbers freed) o.obj.0)) objects
+kept_objects freed objects = filter (λ o. not (has_obj freed o.obj.0)) objects
 
 -- an operation that has started
 abbrev pub flight_of : OpStart → Flight

@@ -1,6 +1,6 @@
 ghost use Rattle.std.specs.Prelude.{◌≡◌, ◌-◌, ◌++◌, if◌then◌else◌, [], filter, map, not, IfOk, OnOk};
 ghost use Rattle.wd_machine.specs.Ends.{failure, is_settled, is_idle, ends, is_hung, whole_out, without, left_live, freed_by};
-ghost use Rattle.wd_machine.specs.Meaning.{has_number, numbers, spent};
+ghost use Rattle.wd_machine.specs.Meaning.{has_obj, spent};
 ghost use Rattle.wd_machine.specs.Steps.{kept_objects, flight_of, TurnsRow};
 
 use crate::state::{Flight, Pending, RequestState};
@@ -82,7 +82,7 @@ fn whole_out(
 
 /// An object is among these.
 fn has(objs: &[Obj], number: u32) -> bool
-    ensures { result ≡ has_number (numbers objs.now) number }
+    ensures { result ≡ has_obj objs.now number }
 {
     objs.iter().any(|o| o.0 == number)
 }

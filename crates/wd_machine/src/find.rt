@@ -19,7 +19,7 @@ pub struct Places {
 /// The place of the Worker of this name.
 #[tactic(auto, using(crate::proofs::KeyedLemmas::place_within))]
 pub fn worker_place<I>(workers: &[WorkerState<I>], name: &[u8]) -> Option<usize>
-    ensures place { position_from (is_worker name.now) 0 workers.now ≡ result }
+    ensures place { result ≡ position_from (is_worker name.now) 0 workers.now }
     ensures within { IfSome result (λ i. i < length workers.now) }
 {
     workers.iter().position(|w| w.name.as_slice() == name)
@@ -28,7 +28,7 @@ pub fn worker_place<I>(workers: &[WorkerState<I>], name: &[u8]) -> Option<usize>
 /// The place of the request of this number.
 #[tactic(auto, using(crate::proofs::KeyedLemmas::place_within))]
 pub fn request_place(rows: &[RequestState], req: Req) -> Option<usize>
-    ensures place { position_from (is_request req.0) 0 rows.now ≡ result }
+    ensures place { result ≡ position_from (is_request req.0) 0 rows.now }
     ensures within { IfSome result (λ i. i < length rows.now) }
 {
     rows.iter().position(|r| r.req.0 == req.0)

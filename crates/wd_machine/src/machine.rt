@@ -1,21 +1,28 @@
-ghost use Rattle.std.specs.Prelude.{◌≡◌, IfOk, OnOk};
+ghost use Rattle.std.specs.Prelude.{◌≡◌, IfOk, OnOk, is_some};
 ghost use Rattle.std.specs.List.{position_from};
 ghost use Rattle.std.specs.Option.{option_copied};
+ghost use Rattle.wd_graph.specs.Names.{worker_in};
 ghost use Rattle.wd_machine.specs.Found.{ArePlaces, is_worker, request_of, worker_for};
-ghost use Rattle.wd_machine.specs.Rules.{is_open, is_whole, broken_arrive, broken_begin, broken_turn};
-ghost use Rattle.wd_machine.specs.Steps.{arrived, begun, turned, turn_out};
+ghost use Rattle.wd_machine.specs.Rules.{is_open, is_whole, broken, broken_entry, broken_arrive, broken_begin, broken_turn};
+ghost use Rattle.wd_machine.specs.First.{AreFirst, AreFirstOf, first_state, first_workers, idle_worker};
+ghost use Rattle.wd_machine.specs.Steps.{step, arrived, begun, turned, turn_out};
 
 use crate::ends::end_turn;
-use crate::find::{Places, places_of, request_at, waits_in, worker_at, worker_place};
+use crate::find::{Places, places_of, request_at, run_on, waits_in, worker_at, worker_place};
 use crate::isolate::Isolate;
-use crate::journal::Head;
+use crate::journal::{Entry, Head};
 use crate::refusal::Refused;
-use crate::rules::{arrive_refused, begin_refused, turn_refused};
+use crate::rules::{
+    arrive_refused, begin_refused, drain_refused, nothing_refused, number_refused, turn_refused,
+};
 use crate::state::{Due, RequestState, Run, Waiter, WorkerState};
-use crate::steps::{add_waiter, give_back, new_request, push_named, run_front, stop_run};
+use crate::steps::{add_waiter, give_back, new_request, push_named, run_front, start_run, stop_run};
 use crate::turn::Out;
+use std::alloc::Global;
 use std::marker::Model;
-use wd_base::{Bytes, NoMemory, ObjName, Origin, Req, ReqData, Seat, Wake};
+use wd_base::{
+    Bytes, Kind, NoMemory, ObjName, Origin, Req, ReqData, Seat, Seq, Service, TryClone, Wake,
+};
 use wd_graph::World;
 
 /// The machine's tables as a program has them. Contracts see them as the state.
@@ -51,7 +58,7 @@ impl<I> Machine<I> {
 
     /// The place of the Worker of this name.
     pub fn worker_place(&self, name: &[u8]) -> Option<usize>
-        ensures { position_from (is_worker name.now) 0 self.now.workers ≡ result }
+        ensures { result ≡ position_from (is_worker name.now) 0 self.now.workers }
     {
         worker_place(self.workers.as_slice(), name)
     }
@@ -62,6 +69,47 @@ impl<I> Machine<I> {
         ensures { option_copied result ≡ request_of places.req.0 self.now.requests }
     {
         request_at(self.requests.as_slice(), places)
+    }
+
+    /// Why an entry is not allowed, if it is not: the least rule that it breaks.
+    pub fn refused(
+        &self,
+        world: &World,
+        head: &Head,
+        entry: &Entry,
+    ) -> Result<Option<Refused>, NoMemory>
+        ensures { IfOk result (λ r. r ≡ broken world.now head.now self.now entry.now) }
+    {
+        if entry.seat().0 >= 64 {
+            return Ok(number_refused(1, 64));
+        }
+        self.entry_refused(world, head, entry)
+    }
+
+    /// Why an entry of a seat that may exist is not allowed, if it is not.
+    fn entry_refused(
+        &self,
+        world: &World,
+        head: &Head,
+        entry: &Entry,
+    ) -> Result<Option<Refused>, NoMemory>
+        ensures { IfOk result (λ r. r ≡ broken_entry (is_whole head.now) (is_open world.now head.now) world.now self.now entry.now) }
+    {
+        match entry {
+            Entry::Arrive {
+                req,
+                service,
+                origin,
+                allow,
+                ..
+            } => self.arrive_refused(world, head, *req, service, *origin, *allow),
+            Entry::Begin { seat, req } => Ok(self.begin_refused(self.places(*req), *seat)),
+            Entry::Turn { seat, req, out } => self.turn_refused(self.places(*req), *seat, out),
+            Entry::Answer { .. } => Ok(nothing_refused(16)),
+            Entry::Served { req, .. } => Ok(number_refused(18, req.0)),
+            Entry::Cancel { req, .. } => Ok(number_refused(19, req.0)),
+            Entry::Drain { seat } => Ok(drain_refused(run_on(self.running.as_slice(), *seat))),
+        }
     }
 
     /// Why the request may not arrive, if it may not.
@@ -148,7 +196,69 @@ impl<I> Machine<I> {
     }
 }
 
+impl<I: Isolate + Drop> Machine<I> {
+    /// The machine before any entry. `isolates` has the first isolate of each Worker of the world,
+    /// in order.
+    pub fn new(world: &World, isolates: Vec<I>) -> Result<Machine<I>, NoMemory>
+        requires { AreFirst I.means world.now isolates.items }
+        ensures { IfOk result (λ machine. machine ≡ first_state I.means world.now) }
+    {
+        let alloc = *isolates.allocator();
+        let workers = first_workers(alloc, world.services().as_slice(), isolates)?;
+        Ok(Machine {
+            workers,
+            requests: Vec::new(alloc),
+            running: Vec::new(alloc),
+            due: Vec::new(alloc),
+            made: Vec::new(alloc),
+            freed: Vec::new(alloc),
+        })
+    }
+}
+
 impl<I: Isolate> Machine<I> {
+    /// Takes the step of an entry that is allowed.
+    pub fn step(&mut self, entry: &Entry) -> Result<(), NoMemory>
+        ensures { OnOk result (self.new ≡ step I.means self.old entry.now) }
+    {
+        match entry {
+            Entry::Arrive {
+                seat,
+                req,
+                service,
+                origin,
+                allow,
+                request,
+            } => {
+                let alloc = *self.requests.allocator();
+                let worker = self.worker_place(service.as_slice());
+                let service = service.try_clone(alloc)?;
+                let request = request.try_clone(alloc)?;
+                self.arrive(worker, *seat, *req, service, *origin, *allow, request)
+            }
+            Entry::Begin { seat, req } => {
+                let places = self.places(*req);
+                self.begin(places, *seat)
+            }
+            Entry::Turn { seat, req, .. } => {
+                let places = self.places(*req);
+                self.end(places, *seat)
+            }
+            _ => Ok(()),
+        }
+    }
+
+    /// A turn's step without its `Out`.
+    fn end(&mut self, places: Places, seat: Seat) -> Result<(), NoMemory>
+        requires { ArePlaces self.old.workers self.old.requests places }
+        ensures { OnOk result (self.new ≡ turned self.old seat places.req) }
+    {
+        match self.turn(places, seat) {
+            Ok(_) => Ok(()),
+            Err(NoMemory) => Err(NoMemory),
+        }
+    }
+
     /// The front waiter's turn is made, and the seat runs it. It is one of this request.
     #[tactic(auto, using(crate::proofs::KeyedLemmas::place_within))]
     pub fn begin(&mut self, places: Places, seat: Seat) -> Result<(), NoMemory>
@@ -165,13 +275,8 @@ impl<I: Isolate> Machine<I> {
         if self.workers[place].waiters.is_empty() {
             return Ok(());
         }
-        let run = Run {
-            seat,
-            req: self.requests[at].req,
-        };
-        if self.running.push(run).is_err() {
-            return Err(NoMemory);
-        }
+        let req = self.requests[at].req;
+        start_run(&mut self.running, seat, req)?;
         run_front(alloc, &mut self.workers[place], &mut self.requests[at])
     }
 
@@ -201,4 +306,55 @@ impl<I: Isolate> Machine<I> {
         give_back(alloc, &mut self.workers[place], done.ended, places.req);
         Ok(Some(done.out))
     }
+}
+
+/// The Workers among the services, each with its isolate.
+fn first_workers<I: Isolate + Drop>(
+    alloc: Global,
+    services: &[Service],
+    isolates: Vec<I>,
+) -> Result<Vec<WorkerState<I>>, NoMemory>
+    requires { AreFirstOf I.means services.now services.now isolates.items }
+    ensures { IfOk result (λ workers. workers.items ≡ first_workers I.means services.now) }
+{
+    let mut isolates = isolates;
+    let mut workers = Vec::new(alloc);
+    for service in services {
+        if is_worker(service) && !isolates.is_empty() {
+            let isolate = isolates.remove(0);
+            let worker = idle_worker(alloc, service, isolate)?;
+            if workers.push(worker).is_err() {
+                return Err(NoMemory);
+            }
+        }
+    }
+    Ok(workers)
+}
+
+/// The service is a Worker.
+fn is_worker(service: &Service) -> bool
+    ensures { result ≡ is_some (worker_in service.now.kind) }
+{
+    match &service.kind {
+        Kind::Worker(_) => true,
+        _ => false,
+    }
+}
+
+/// A Worker before any entry.
+fn idle_worker<I: Drop>(
+    alloc: Global,
+    service: &Service,
+    isolate: I,
+) -> Result<WorkerState<I>, NoMemory>
+    ensures { IfOk result (λ worker. worker ≡ idle_worker service.now.name isolate) }
+{
+    let name = service.name.try_clone(alloc)?;
+    Ok(WorkerState {
+        name,
+        isolate,
+        generation: 0,
+        holder: None,
+        waiters: Seq::new(alloc),
+    })
 }

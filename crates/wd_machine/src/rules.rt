@@ -4,7 +4,7 @@ ghost use Rattle.wd_machine.specs.declared.refusal.Kept.TheVariants.{Number, Nam
 ghost use Rattle.wd_graph.specs.Names.{is_public};
 ghost use Rattle.wd_machine.specs.Ends.{whole_out};
 ghost use Rattle.wd_machine.specs.Found.{waiters_at, waiting, front, holder_of};
-ghost use Rattle.wd_machine.specs.Rules.{kept_number, is_number, is_open, is_whole, is_live_on, broken_arrive, broken_origin, broken_begin, broken_front, broken_turn, broken_pending, broken_field};
+ghost use Rattle.wd_machine.specs.Rules.{kept_number, is_number, is_open, is_whole, is_live_on, broken_arrive, broken_origin, broken_begin, broken_front, broken_turn, broken_pending, broken_field, broken_drain};
 ghost use Rattle.wd_machine.specs.Same.{first_difference, last_difference, is_same};
 
 use crate::ends::{failure, is_hung};
@@ -292,6 +292,13 @@ fn out_refused(
     Ok(field_refused(field))
 }
 
+/// Why a seat may not free what is due, which it never may yet.
+pub fn drain_refused(run: Option<Req>) -> Option<Refused>
+    ensures { result ≡ broken_drain run }
+{
+    request_refused(21, run)
+}
+
 /// A refusal that keeps a field, where one differs.
 fn field_refused(field: Option<OutField>) -> Option<Refused>
     ensures { result ≡ broken_field field }
@@ -308,7 +315,7 @@ fn field_refused(field: Option<OutField>) -> Option<Refused>
 /// The two values are equal.
 #[tactic(auto, using(crate::proofs::SameLemmas::is_same_exact))]
 fn is_same<T: Same>(a: &T, b: &T) -> bool
-    ensures { result ≡ is_same T.code a.now b.now }
+    ensures { result ≡ is_same T.row.coded a.now b.now }
 {
     a.same(b)
 }

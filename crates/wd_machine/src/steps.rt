@@ -1,4 +1,4 @@
-ghost use Rattle.std.specs.Prelude.{◌≡◌, ◌==◌, ◌++◌, not, map, filter, OnOk};
+ghost use Rattle.std.specs.Prelude.{◌≡◌, ◌==◌, ◌∷◌, ◌++◌, [], not, map, filter, OnOk};
 ghost use Rattle.wd_machine.specs.Steps.{RunsFront, given_back, named, new_request, waiters_without, waits_too};
 
 use crate::isolate::Isolate;
@@ -85,11 +85,28 @@ pub fn push_named(names: &mut Vec<ObjName>, req: Req, objs: &[Obj]) -> Result<()
     Ok(())
 }
 
+/// The seat runs a turn of the request.
+pub fn start_run(running: &mut Vec<Run>, seat: Seat, req: Req) -> Result<(), NoMemory>
+    ensures { OnOk result (running.new.items ≡ running.old.items ++ record { seat = seat; req = req } ∷ []) }
+{
+    if running.push(Run { seat, req }).is_err() {
+        return Err(NoMemory);
+    }
+    Ok(())
+}
+
 /// The seat runs nothing any longer.
 pub fn stop_run(running: &mut Vec<Run>, seat: Seat)
     ensures { running.new.items ≡ filter (λ x. not (x.seat.0 == seat.0)) running.old.items }
 {
-    running.retain(|x| x.seat.0 != seat.0);
+    running.retain(|x| is_elsewhere(x, seat));
+}
+
+/// The turn runs on another seat.
+fn is_elsewhere(run: &Run, seat: Seat) -> bool
+    ensures { result ≡ not (run.now.seat.0 == seat.0) }
+{
+    run.seat.0 != seat.0
 }
 
 /// The waiters of the other requests.
@@ -97,8 +114,15 @@ fn waiters_without(waiters: Waiters, req: Req) -> Waiters
     ensures { result ≡ waiters_without req.0 waiters }
 {
     let mut kept = waiters.into_vec();
-    kept.retain(|w| w.req.0 != req.0);
+    kept.retain(|w| is_other(w, req));
     Seq::from_vec(kept)
+}
+
+/// The waiter is of another request.
+fn is_other(waiter: &Waiter, req: Req) -> bool
+    ensures { result ≡ not (waiter.now.req.0 == req.0) }
+{
+    waiter.req.0 != req.0
 }
 
 /// Frees a Worker's isolate for the next turn.
