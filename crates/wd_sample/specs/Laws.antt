@@ -156,8 +156,14 @@ live_lawful s t = record {
 
 dead_lawful : (s : Sample) (t : TurnIn) → IsDeadTurn sample_means s t (dead_turn s t)
 dead_lawful s t = record {
-  out = refl; objects = refl; held = refl; started = λ req. refl;
-  generation = refl; condemned = refl; worker = refl; workers = refl;
+  out = refl;
+  objects = refl;
+  held = refl;
+  started = λ req. refl;
+  generation = refl;
+  condemned = refl;
+  worker = refl;
+  workers = refl;
 }
 
 and_false : (b : Bool) → (b && false) ≡ false

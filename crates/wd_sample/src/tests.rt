@@ -1,8 +1,6 @@
 use crate::hello::hello_core;
 use std::alloc::Global;
-use wd_base::{
-    LinkNo, NoMemory, Obj, Objs, Origin, Reply, Req, ReqData, Seat, Seq, Why,
-};
+use wd_base::{LinkNo, NoMemory, Obj, Objs, Origin, Reply, Req, ReqData, Seat, Seq, Why};
 use wd_machine::{ApplyEnd, Entry, Kept, Out, OutField};
 
 fn arrive(
