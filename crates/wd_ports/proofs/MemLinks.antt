@@ -1,23 +1,16 @@
 -- What a port in memory tells after a change of its links.
-use Rattle.std.proofs.Common.{◌≡◌, ℕ, ◌+◌, ◌-◌, ◌≤◌, min, Err, List, [], ◌∷◌, ◌++◌, length, map, take, set, get_or, refl, ap, sym, ◌∙◌, arith, Some, length-append}
+use Rattle.std.proofs.Common.{◌≡◌, ℕ, ◌-◌, List, [], ◌∷◌, ◌++◌, length, map, take, set, refl, ap, sym, ◌∙◌, Some, length-append}
 use Rattle.std.proofs.lemmas.List.{map-set, map-append, length-set}
 use Rattle.std.proofs.Math.ListN.{get_or-map}
 use Rattle.std.proofs.Math.Seq.{map-set_same, take-length}
 use Rattle.wd_base.specs.declared.ids.LinkNo.{LinkNo}
 use Rattle.wd_ports.specs.declared.told.LinkOrigin.{LinkOrigin}
 use Rattle.wd_ports.specs.declared.told.LinkState.{LinkState}
-use Rattle.wd_ports.specs.declared.told.Faults.{Faults}
-use Rattle.wd_ports.specs.declared.told.FileFaults.{FileFaults}
-use Rattle.wd_ports.specs.declared.told.Side.{Side}
-use Rattle.wd_ports.specs.declared.told.Side.TheVariants.{Accepted, Connected}
-use Rattle.wd_ports.specs.declared.told.Failed.TheVariants.{Fault}
 use Rattle.wd_ports.specs.declared.mem_port.Source.{Source}
 use Rattle.wd_ports.specs.declared.mem_port.MemLink.{MemLink}
 use Rattle.wd_ports.specs.declared.mem_port.MemPort.{MemPort}
-use Rattle.wd_ports.specs.Told.{Told, on_link, link_of, sent_on, received_on, ended_on, shut_on, given_on, with_sent, with_received, with_end, with_shut}
-use Rattle.wd_ports.specs.Faults.{Part, ReadLink, WriteLink, part, with_part, Blames}
+use Rattle.wd_ports.specs.Told.{Told, on_link, sent_on, received_on, ended_on, shut_on, given_on, with_sent, with_received, with_end, with_shut}
 use Rattle.wd_ports.specs.MemPort.{mem_told, changed, lost, new_mem, blank_mem}
-use Rattle.wd_ports.proofs.Parts.{part_of_with}
 
 -- what the port tells with other links
 abbrev with_links : MemPort → List MemLink → Told

@@ -1,11 +1,11 @@
 -- Changes of one link, one after another.
-use Rattle.std.proofs.Common.{◌≡◌, ℕ, zero, suc, ◌+◌, ◌-◌, ◌<◌, ◌≤◌, List, [], ◌∷◌, ◌++◌, length, take, drop, set, get_or, refl, ap, sym, ◌∙◌, arith, Option, Some, None, append_assoc, append-nil, length-drop}
+use Rattle.std.proofs.Common.{◌≡◌, ℕ, zero, suc, ◌+◌, ◌-◌, List, [], ◌∷◌, ◌++◌, length, take, drop, set, get_or, refl, ap, sym, ◌∙◌, arith, Some, None, append_assoc, append-nil, length-drop}
 use Rattle.std.specs.Option.{option_map}
 use Rattle.std.proofs.lemmas.List.{set-get_or, take_all, get_or-set_same, length-set}
 use Rattle.std.proofs.Math.Seq.{take-add}
 use Rattle.wd_base.specs.declared.ids.LinkNo.{LinkNo}
 use Rattle.wd_ports.specs.declared.told.LinkState.{LinkState}
-use Rattle.wd_ports.specs.Told.{Told, state_of, link_told, Has, shut_on, ended_on, given_on, new_link, sent_on, received_on, on_link, link_of, blank}
+use Rattle.wd_ports.specs.Told.{Told, state_of, link_told, Has, sent_on, received_on, on_link, link_of, blank}
 
 twice_at : (ls : List LinkState) (i : ℕ) (f g : LinkState → LinkState) → set (set ls i (f (get_or ls i blank))) i (g (get_or (set ls i (f (get_or ls i blank))) i blank)) ≡ set ls i (g (f (get_or ls i blank)))
 twice_at [] i f g = refl

@@ -1,5 +1,5 @@
 -- The parts of the count of faults.
-use Rattle.std.proofs.Common.{◌≡◌, ℕ, ◌+◌, ◌≤◌, refl, ap, sym, ◌∙◌, arith}
+use Rattle.std.proofs.Common.{◌≡◌, ℕ, refl, ap, sym, ◌∙◌, arith}
 use Rattle.wd_ports.specs.declared.told.Faults.{Faults}
 use Rattle.wd_ports.specs.declared.told.Side.TheVariants.{Accepted, Connected}
 use Rattle.wd_ports.specs.Faults.{Part, ReadFile, ListFolder, WriteFile, Listen, Lookup, Connect, ReadLink, WriteLink, part, with_part, OnlyPart}

@@ -1,5 +1,5 @@
 -- What files in memory tell.
-use Rattle.std.specs.Prelude.{◌≡◌, ◌≢◌, ℕ, ◌≤◌, ◌<◌, Bool, true, false, List, [], length, Option, Some, None, slice_index_or}
+use Rattle.std.specs.Prelude.{◌≡◌, ◌≢◌, ℕ, ◌<◌, true, false, List, [], length, Option, Some, None, slice_index_or}
 use Rattle.std.specs.Str.{bytes_eq}
 use Rattle.wd_ports.specs.declared.told.Faults.{Faults}
 use Rattle.wd_ports.specs.declared.mem_files.MemFiles.{MemFiles}

@@ -12,7 +12,7 @@ use crate::sink::print;
 use crate::told::{Accepted, Failed, Faults, FileFaults, FileKind, Got};
 use std::alloc::Global;
 use std::test::Fail;
-use wd_base::{Addr, Bytes, Ip4, LinkNo, NoMemory, Numbers, Seat, Seq, SockNo};
+use wd_base::{Addr, Bytes, Ip4, LinkNo, NoMemory, Numbers, Seat, Seq, SockNo, TryClone};
 
 fn bytes(alloc: Global, text: &[u8]) -> Result<Bytes, NoMemory> {
     Seq::copy(alloc, text)
@@ -228,36 +228,46 @@ fn three_links(alloc: Global) -> Result<PortPlan, NoMemory> {
     Ok(plan)
 }
 
+const EVENTS: [(Step, &'static str); 22] = [
+    (Step::Listen, "socket 0"),
+    (Step::Accept, "link 01"),
+    (Step::Accept, "later"),
+    (Step::Read(0), "ab"),
+    (Step::Read(0), "cdef"),
+    (Step::Read(0), "g"),
+    (Step::Read(0), "later"),
+    (Step::Write(0), "sent"),
+    (Step::Accept, "link 02"),
+    (Step::Read(1), "z"),
+    (Step::Read(1), "later"),
+    (Step::Read(0), "later"),
+    (Step::Accept, "later"),
+    (Step::Write(1), "sent"),
+    (Step::Read(0), "end"),
+    (Step::Gone(0), "here"),
+    (Step::Accept, "later"),
+    (Step::Write(1), "sent"),
+    (Step::Gone(0), "gone"),
+    (Step::Gone(1), "here"),
+    (Step::Accept, "closed"),
+    (Step::Accept, "closed"),
+];
+
+/// The first step that a port of the plan answers otherwise, and how often its calls failed.
+fn try_steps(
+    alloc: Global,
+    plan: PortPlan,
+    steps: &[(Step, &'static str)],
+) -> Result<(Option<usize>, u64), NoMemory> {
+    let mut port = MemPort::new(alloc, plan)?;
+    let wrong = first_wrong(alloc, &mut port, steps)?;
+    Ok((wrong, port.fails()))
+}
+
 #[test]
 fn events_happen_at_their_marks(rt: HostRuntime) -> Result<(), Fail> {
-    let alloc = rt.alloc();
-    let mut port = MemPort::new(alloc, three_links(alloc)?)?;
-    let steps = [
-        (Step::Listen, "socket 0"),
-        (Step::Accept, "link 01"),
-        (Step::Accept, "later"),
-        (Step::Read(0), "ab"),
-        (Step::Read(0), "cdef"),
-        (Step::Read(0), "g"),
-        (Step::Read(0), "later"),
-        (Step::Write(0), "sent"),
-        (Step::Accept, "link 02"),
-        (Step::Read(1), "z"),
-        (Step::Read(1), "later"),
-        (Step::Read(0), "later"),
-        (Step::Accept, "later"),
-        (Step::Write(1), "sent"),
-        (Step::Read(0), "end"),
-        (Step::Gone(0), "here"),
-        (Step::Accept, "later"),
-        (Step::Write(1), "sent"),
-        (Step::Gone(0), "gone"),
-        (Step::Gone(1), "here"),
-        (Step::Accept, "closed"),
-        (Step::Accept, "closed"),
-    ];
-    assert_eq!(rt; first_wrong(alloc, &mut port, &steps)?, None);
-    assert_eq!(rt; port.fails(), 0);
+    let plan = three_links(rt.alloc())?;
+    assert_eq!(rt; try_steps(rt.alloc(), plan, &EVENTS)?, (None, 0));
     Ok(())
 }
 
@@ -281,54 +291,69 @@ fn add_hosts(alloc: Global, plan: &mut PortPlan) -> Result<(), NoMemory> {
     plan.hosts.push((none, Seq::new(alloc)))
 }
 
-#[test]
-fn peers_reply_after_their_mark(rt: HostRuntime) -> Result<(), Fail> {
-    let alloc = rt.alloc();
+const PEERS: [(Step, &'static str); 12] = [
+    (Step::Lookup("a.test"), "12"),
+    (Step::Lookup("b.test"), "fault"),
+    (Step::Lookup("c.test"), "fault"),
+    (Step::Connect(81), "fault"),
+    (Step::Connect(80), "link 1"),
+    (Step::Read(0), "later"),
+    (Step::Write(0), "sent"),
+    (Step::Read(0), "repl"),
+    (Step::Read(0), "y"),
+    (Step::Read(0), "end"),
+    (Step::Read(0), "end"),
+    (Step::Accept, "closed"),
+];
+
+fn plan_of_peers(alloc: Global) -> Result<PortPlan, NoMemory> {
     let mut plan = empty_plan(alloc);
     add_peer(alloc, &mut plan, 2)?;
     add_hosts(alloc, &mut plan)?;
-    let mut port = MemPort::new(alloc, plan)?;
-    let steps = [
-        (Step::Lookup("a.test"), "12"),
-        (Step::Lookup("b.test"), "fault"),
-        (Step::Lookup("c.test"), "fault"),
-        (Step::Connect(81), "fault"),
-        (Step::Connect(80), "link 1"),
-        (Step::Read(0), "later"),
-        (Step::Write(0), "sent"),
-        (Step::Read(0), "repl"),
-        (Step::Read(0), "y"),
-        (Step::Read(0), "end"),
-        (Step::Read(0), "end"),
-        (Step::Accept, "closed"),
-    ];
-    assert_eq!(rt; first_wrong(alloc, &mut port, &steps)?, None);
-    assert_eq!(rt; port.fails(), 3);
-    Ok(())
+    Ok(plan)
 }
 
 #[test]
-fn calls_fail_by_their_numbers(rt: HostRuntime) -> Result<(), Fail> {
-    let alloc = rt.alloc();
+fn peers_reply_after_their_mark(rt: HostRuntime) -> Result<(), Fail> {
+    let plan = plan_of_peers(rt.alloc())?;
+    assert_eq!(rt; try_steps(rt.alloc(), plan, &PEERS)?, (None, 3));
+    Ok(())
+}
+
+const FAILING: [(Step, &'static str); 11] = [
+    (Step::Listen, "fault"),
+    (Step::Listen, "socket 0"),
+    (Step::Lookup("a.test"), "fault"),
+    (Step::Connect(80), "fault"),
+    (Step::Connect(80), "link 1"),
+    (Step::Accept, "link 02"),
+    (Step::Read(0), "fault"),
+    (Step::Read(1), "fault"),
+    (Step::Write(0), "fault"),
+    (Step::Write(1), "fault"),
+    (Step::Gone(0), "gone"),
+];
+
+fn plan_that_fails(alloc: Global) -> Result<PortPlan, NoMemory> {
     let mut plan = empty_plan(alloc);
     plan.events.push((0, PortEvent::Accept(SockNo(0))))?;
     add_peer(alloc, &mut plan, 0)?;
     plan.fail = numbers(alloc, &[0, 2, 3, 5, 6, 7, 8])?;
+    Ok(plan)
+}
+
+/// The count of a port of that plan after its steps.
+fn failing_count(alloc: Global) -> Result<Option<Faults>, NoMemory> {
+    let plan = plan_that_fails(alloc)?;
     let mut port = MemPort::new(alloc, plan)?;
-    let steps = [
-        (Step::Listen, "fault"),
-        (Step::Listen, "socket 0"),
-        (Step::Lookup("a.test"), "fault"),
-        (Step::Connect(80), "fault"),
-        (Step::Connect(80), "link 1"),
-        (Step::Accept, "link 02"),
-        (Step::Read(0), "fault"),
-        (Step::Read(1), "fault"),
-        (Step::Write(0), "fault"),
-        (Step::Write(1), "fault"),
-        (Step::Gone(0), "gone"),
-    ];
-    assert_eq!(rt; first_wrong(alloc, &mut port, &steps)?, None);
+    match first_wrong(alloc, &mut port, &FAILING)? {
+        Some(_) => Ok(None),
+        None => Ok(Some(port.count())),
+    }
+}
+
+#[test]
+fn calls_fail_by_their_numbers(rt: HostRuntime) -> Result<(), Fail> {
     let once = Faults {
         files: FileFaults {
             read: 0,
@@ -343,9 +368,44 @@ fn calls_fail_by_their_numbers(rt: HostRuntime) -> Result<(), Fail> {
         write_accepted: 1,
         write_connected: 1,
     };
-    assert_eq!(rt; port.count(), once);
-    assert_eq!(rt; port.fails(), 7);
+    assert_eq!(rt; failing_count(rt.alloc())?, Some(once));
     Ok(())
+}
+
+/// What was sent on the one link of a port, whose first write is of "xy", and how often it was
+/// shut.
+fn sent_and_shut(alloc: Global) -> Result<Option<(Bytes, u32)>, NoMemory> {
+    let mut plan = empty_plan(alloc);
+    add_peer(alloc, &mut plan, 0)?;
+    let mut port = MemPort::new(alloc, plan)?;
+    let Ok(link) = port.connect(alloc, Ip4(1), 80) else {
+        return Ok(None);
+    };
+    let Ok(_) = port.write_link(link, b"xy") else {
+        return Ok(None);
+    };
+    let sent = port.sent(link).try_clone(alloc)?;
+    let before = port.shuts(link);
+    port.shut(link);
+    Ok(Some((sent, before)))
+}
+
+#[test]
+fn a_port_keeps_what_was_sent(rt: HostRuntime) -> Result<(), Fail> {
+    let Some((sent, shuts)) = sent_and_shut(rt.alloc())? else {
+        panic!(rt; "no link");
+    };
+    assert_eq!(rt; sent.as_slice(), b"xy".as_slice());
+    assert_eq!(rt; shuts, 0);
+    Ok(())
+}
+
+/// A call on files.
+#[derive(Clone, Copy, Debug, PartialEq, Eq)]
+enum FileStep {
+    Read(&'static str),
+    List(&'static str),
+    Write(&'static str, &'static str),
 }
 
 /// The names of a listing, each followed by `/` if it is a folder's and by `;`, and `(none)`.
@@ -399,95 +459,129 @@ fn some_files(alloc: Global) -> Result<MemFiles, NoMemory> {
     Ok(files)
 }
 
+/// `written`, or why not.
+fn write_text(
+    alloc: Global,
+    files: &mut MemFiles,
+    path: &str,
+    text: &str,
+) -> Result<Bytes, NoMemory> {
+    match files.write(alloc, path, text.as_bytes()) {
+        Ok(()) => Seq::copy(alloc, b"written"),
+        Err(Failed::Fault) => Seq::copy(alloc, b"(fault)"),
+        Err(Failed::NoMemory) => Err(NoMemory),
+    }
+}
+
+const FILES: [(FileStep, &'static str); 13] = [
+    (FileStep::Read("d/a"), "1"),
+    (FileStep::Read("d"), "(none)"),
+    (FileStep::Read("dd"), "4"),
+    (FileStep::List("d"), "a;a;e/;"),
+    (FileStep::List("d/e"), "f;"),
+    (FileStep::List("x"), "(none)"),
+    (FileStep::List("dd"), "(none)"),
+    (FileStep::Write("d/a", "new"), "written"),
+    (FileStep::Read("d/a"), "new"),
+    (FileStep::Read("d/a"), "(fault)"),
+    (FileStep::List("d"), "(fault)"),
+    (FileStep::Write("d/a", "newer"), "(fault)"),
+    (FileStep::Read("d/a"), "new"),
+];
+
+/// The first step that the files answer otherwise, and their count after the steps.
+fn try_files(alloc: Global) -> Result<(Option<usize>, FileFaults), NoMemory> {
+    let mut files = some_files(alloc)?;
+    for at in 0..FILES.len() {
+        let text = match FILES[at].0 {
+            FileStep::Read(path) => file_text(alloc, &mut files, path)?,
+            FileStep::List(path) => list_text(alloc, &mut files, path)?,
+            FileStep::Write(path, text) => write_text(alloc, &mut files, path, text)?,
+        };
+        if text.as_slice() != FILES[at].1.as_bytes() {
+            return Ok((Some(at), files.faults));
+        }
+    }
+    Ok((None, files.faults))
+}
+
 #[test]
 fn files_are_found_by_their_paths(rt: HostRuntime) -> Result<(), Fail> {
-    let alloc = rt.alloc();
-    let mut files = some_files(alloc)?;
-    for (path, want) in [("d/a", b"1".as_slice()), ("d", b"(none)"), ("dd", b"4")] {
-        assert_eq!(rt;
-            file_text(alloc, &mut files, path)?.as_slice(),
-            want,
-            "at {path}"
-        );
-    }
-    for (path, want) in [
-        ("d", b"a;a;e/;".as_slice()),
-        ("d/e", b"f;"),
-        ("x", b"(none)"),
-        ("dd", b"(none)"),
-    ] {
-        assert_eq!(rt;
-            list_text(alloc, &mut files, path)?.as_slice(),
-            want,
-            "at {path}"
-        );
-    }
-    assert_eq!(rt; files.write(alloc, "d/a", b"new"), Ok(()));
-    assert_eq!(rt;
-        file_text(alloc, &mut files, "d/a")?.as_slice(),
-        b"new".as_slice()
-    );
-    assert_eq!(rt;
-        file_text(alloc, &mut files, "d/a")?.as_slice(),
-        b"(fault)".as_slice()
-    );
-    assert_eq!(rt;
-        list_text(alloc, &mut files, "d")?.as_slice(),
-        b"(fault)".as_slice()
-    );
-    assert_eq!(rt; files.write(alloc, "d/a", b"newer"), Err(Failed::Fault));
     let once = FileFaults {
         read: 1,
         list: 1,
         write: 1,
     };
-    assert_eq!(rt; files.faults, once);
-    assert_eq!(rt;
-        file_text(alloc, &mut files, "d/a")?.as_slice(),
-        b"new".as_slice()
-    );
+    assert_eq!(rt; try_files(rt.alloc())?, (None, once));
     Ok(())
+}
+
+/// A plan for one seat, and call 2 fails.
+fn maker_of_one(alloc: Global) -> Result<MemMaker, NoMemory> {
+    let mut plan = empty_plan(alloc);
+    plan.events.push((1, PortEvent::Accept(SockNo(0))))?;
+    plan.files.faults.read = 5;
+    let mut plans = Seq::new(alloc);
+    plans.push(plan)?;
+    let fail = numbers(alloc, &[2])?;
+    Ok(MemMaker {
+        plans,
+        fail,
+        calls: 0,
+        faults: 0,
+    })
+}
+
+/// The first answer of the port of a seat, and how often its calls failed.
+fn first_answer(
+    alloc: Global,
+    maker: &mut MemMaker,
+    seat: Seat,
+) -> Result<Option<(Accepted, u64)>, NoMemory> {
+    match maker.port(alloc, seat) {
+        Ok(mut port) => {
+            let answer = port.accept(alloc)?;
+            Ok(Some((answer, port.fails())))
+        }
+        Err(Failed::Fault) => Ok(None),
+        Err(Failed::NoMemory) => Err(NoMemory),
+    }
 }
 
 #[test]
 fn seats_get_their_plans(rt: HostRuntime) -> Result<(), Fail> {
-    let alloc = rt.alloc();
-    let mut plan = empty_plan(alloc);
-    plan.events.push((1, PortEvent::Accept(SockNo(0))))?;
-    plan.files.faults.read = 5;
-    let mut maker = MemMaker {
-        plans: Seq::new(alloc),
-        fail: numbers(alloc, &[2])?,
-        calls: 0,
-        faults: 0,
-    };
-    maker.plans.push(plan)?;
-    for (seat, want) in [(0, Accepted::Later), (1, Accepted::Closed)] {
-        let Ok(mut port) = maker.port(alloc, Seat(seat)) else {
-            panic!(rt; "no port");
-        };
-        assert_eq!(rt; port.accept(alloc), Ok(want));
-        assert_eq!(rt; port.fails(), 0);
+    let mut maker = maker_of_one(rt.alloc())?;
+    for (seat, want) in [
+        (0, Some((Accepted::Later, 0))),
+        (1, Some((Accepted::Closed, 0))),
+        (0, None),
+    ] {
+        assert_eq!(rt; first_answer(rt.alloc(), &mut maker, Seat(seat))?, want);
     }
-    let Err(Failed::Fault) = maker.port(alloc, Seat(0)) else {
-        panic!(rt; "a port");
-    };
     assert_eq!(rt; maker.faults, 1);
     Ok(())
 }
 
-#[test]
-fn sinks_take_texts(rt: HostRuntime) -> Result<(), Fail> {
-    let alloc = rt.alloc();
+/// What a sink holds whose second write fails.
+fn try_sink(alloc: Global) -> Result<MemSink, NoMemory> {
+    let fail = numbers(alloc, &[1])?;
     let mut sink = MemSink {
         bytes: Seq::new(alloc),
-        fail: numbers(alloc, &[1])?,
+        fail,
         calls: 0,
         faults: 0,
     };
-    assert_eq!(rt; print(&mut sink, b"one"), Ok(()));
-    assert_eq!(rt; print(&mut sink, b"two"), Err(Failed::Fault));
-    assert_eq!(rt; print(&mut sink, b"three"), Ok(()));
+    for text in ["one", "two", "three"] {
+        if let Err(Failed::NoMemory) = print(&mut sink, text.as_bytes()) {
+            return Err(NoMemory);
+        }
+    }
+    Ok(sink)
+}
+
+#[test]
+fn sinks_take_texts(rt: HostRuntime) -> Result<(), Fail> {
+    let sink = try_sink(rt.alloc())?;
     assert_eq!(rt; sink.bytes.as_slice(), b"onethree".as_slice());
     assert_eq!(rt; sink.faults, 1);
     Ok(())
