@@ -1,1 +1,3 @@
 pub mod FormSteps
+pub mod ScriptSteps
+pub mod HolesSteps

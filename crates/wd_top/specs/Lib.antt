@@ -1,1 +1,4 @@
+pub mod Command
 pub mod Form
+pub mod Holes
+pub mod Script

@@ -35,7 +35,7 @@ enum Start {
 
 /// How bytes begin, against a part.
 #[derive(Clone, Copy, Debug, PartialEq, Eq)]
-enum Next {
+pub(crate) enum Next {
     /// With the text and a hole that ends at this place.
     At(usize),
     /// They end within the text or the hole.
@@ -109,14 +109,22 @@ fn start_of(bytes: &[u8], text: &[u8]) -> Start
 {
     if text.len() <= bytes.len() {
         let front = &bytes[..text.len()];
-        if front == text { Start::Whole } else { Start::Other }
+        if front == text {
+            Start::Whole
+        } else {
+            Start::Other
+        }
     } else {
         let front = &text[..bytes.len()];
-        if front == bytes { Start::Short } else { Start::Other }
+        if front == bytes {
+            Start::Short
+        } else {
+            Start::Other
+        }
     }
 }
 
-fn next_of(bytes: &[u8], part: Part) -> Next
+pub(crate) fn next_of(bytes: &[u8], part: Part) -> Next
     ensures { IsNext (gap_of part) bytes.now result }
 {
     match start_of(bytes, part.text) {

@@ -2,4 +2,7 @@
 //! and the session over a port.
 #![tactic(auto)]
 
+mod command;
 mod form;
+mod holes;
+mod script;
