@@ -1,3 +1,6 @@
 pub mod FormSteps
 pub mod ScriptSteps
 pub mod HolesSteps
+pub mod HeadSteps
+pub mod HeadUnique
+pub mod StreamSteps

@@ -6,3 +6,5 @@ mod command;
 mod form;
 mod holes;
 mod script;
+mod http_in;
+mod http_text;
