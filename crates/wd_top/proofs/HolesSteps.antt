@@ -42,10 +42,11 @@ held_is g bytes k a =
 -- the first hole, and then the others
 pub hole_then : (g : Gap) (gs : List Gap) (end bytes : List ℕ) (k : ℕ) (old mid : List (List ℕ)) (r : Option (List (List ℕ))) → is_separated (g ∷ gs) end ≡ true → IsGapAt g bytes k
     → mid ≡ old ++ take (k - length g.text) (drop (length g.text) bytes) ∷ [] → ReadsHoles gs end (drop k bytes) mid r → ReadsHoles (g ∷ gs) end bytes old r
-hole_then g gs end bytes k old mid (Some new) sep a e (holes, reads, is) =
-    (a.held ∷ holes,
-     subst (λ t. ReadsForm (g ∷ gs) end (a.held ∷ holes) t []) (append-nil bytes) (put_back g gs end bytes k [] holes [] a (subst (λ t. ReadsForm gs end holes t []) (sym (append-nil (drop k bytes))) reads)),
-     is ∙ ap (λ t. t ++ holes) (e ∙ ap (λ h. old ++ h ∷ []) (held_is g bytes k a)) ∙ append_assoc old (a.held ∷ []) holes)
+hole_then g gs end bytes k old mid (Some new) sep a e (holes, reads, is) = (
+  a.held ∷ holes,
+  subst (λ t. ReadsForm (g ∷ gs) end (a.held ∷ holes) t []) (append-nil bytes) (put_back g gs end bytes k [] holes [] a (subst (λ t. ReadsForm gs end holes t []) (sym (append-nil (drop k bytes))) reads)),
+  is ∙ ap (λ t. t ++ holes) (e ∙ ap (λ h. old ++ h ∷ []) (held_is g bytes k a)) ∙ append_assoc old (a.held ∷ []) holes,
+)
 hole_then g gs end bytes k old mid None sep a e none = λ holes reads.
     let p = peel g gs end bytes k [] holes [] sep a (subst (λ t. ReadsForm (g ∷ gs) end holes t []) (sym (append-nil bytes)) reads) in
     none p.others (subst (λ t. ReadsForm gs end p.others t []) (append-nil (drop k bytes)) p.reads)

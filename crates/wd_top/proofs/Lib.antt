@@ -4,3 +4,5 @@ pub mod HolesSteps
 pub mod HeadSteps
 pub mod HeadUnique
 pub mod StreamSteps
+pub mod FormUnique
+pub mod ConfigSteps

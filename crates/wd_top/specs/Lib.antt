@@ -6,3 +6,4 @@ pub mod Head
 pub mod Stream
 pub mod Conn
 pub mod Text
+pub mod Config

@@ -3,8 +3,9 @@
 #![tactic(auto)]
 
 mod command;
+mod config;
 mod form;
 mod holes;
-mod script;
 mod http_in;
 mod http_text;
+mod script;
