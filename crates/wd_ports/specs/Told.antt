@@ -130,8 +130,11 @@ after_write n (Ok k) bytes t = sent_on n (take k bytes) t
 after_write n (Err e) bytes t = t
 
 -- the bytes of the first file of that path
+abbrev pub file_in : List (List ℕ × List ℕ) → List ℕ → Option (List ℕ)
+file_in files path = lookup (λ q. bytes_eq q path) files
+
 abbrev pub file_at : Stored → List ℕ → Option (List ℕ)
-file_at s path = lookup (λ q. bytes_eq q path) s.files
+file_at s path = file_in s.files path
 
 -- the same, where the object tells its files
 abbrev pub file_told : Told → List ℕ → Option (Option (List ℕ))
@@ -147,7 +150,7 @@ part_of folder path = drop (length folder + 1) path
 
 -- the path is the folder's, `/` and a part without `/`
 abbrev pub is_child : List ℕ → List ℕ → Bool
-is_child folder path = starts_with nat_eq path (folder ++ slash ∷ []) && not (list_any (λ b. nat_eq b slash) (part_of folder path))
+is_child folder path = starts_with nat_eq path folder && starts_with nat_eq (drop (length folder) path) (slash ∷ []) && not (list_any (λ b. nat_eq b slash) (part_of folder path))
 
 -- the names of the paths that stand in the folder, in order
 unfoldable pub names_in : FileKind → List ℕ → List (List ℕ) → List Name

@@ -4,13 +4,26 @@
 
 mod gate;
 mod maker;
+mod mem_files;
+mod mem_maker;
+mod mem_port;
+mod mem_sink;
+mod plan;
 mod port;
+mod schedule;
 mod send;
 mod sink;
+#[cfg(test)]
+mod tests;
 mod told;
 
 pub use gate::{Gate, NoGate};
 pub use maker::Maker;
+pub use mem_files::MemFiles;
+pub use mem_maker::MemMaker;
+pub use mem_port::MemPort;
+pub use mem_sink::MemSink;
+pub use plan::{Hosts, Peer, Peers, Plans, PortEvent, PortPlan, Timed};
 pub use port::{Files, Port};
 pub use send::write_all;
 pub use sink::{Sink, print};

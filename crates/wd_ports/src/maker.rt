@@ -1,7 +1,7 @@
 ghost use Rattle.std.specs.Prelude.{◌≡◌, ◌≢◌, ℕ, ◌≤◌, Option, IfOk, IfSome, IsErrOf};
 ghost use Rattle.wd_base.specs.declared.ids.Seat.{Seat};
 ghost use Rattle.wd_ports.specs.Told.{Told, IsNewPort};
-ghost use Rattle.wd_ports.specs.Faults.{CountsFault, NoFaults};
+ghost use Rattle.wd_ports.specs.Faults.{CountsFault, no_faults};
 
 use crate::port::{Files, Port};
 use crate::told::Failed;
@@ -23,7 +23,7 @@ pub trait Maker {
     fn port(&mut self, alloc: Global, seat: Seat) -> Result<Self::Port, Failed>
         ensures planned { IfOk result (λ p. IfSome (plan self.old seat) (λ t. Self.Port.Files.told p ≡ t)) }
         ensures fresh { IfOk result (λ p. IsNewPort (Self.Port.Files.told p)) }
-        ensures none { IfOk result (λ p. NoFaults (Self.Port.Files.faults p)) }
+        ensures none { IfOk result (λ p. Self.Port.Files.faults p ≡ no_faults) }
         ensures others { (s : Seat) → s.0 ≢ seat.0 → plan self.new s ≡ plan self.old s }
         ensures blames { CountsFault (failures self.old) (failures self.new) result }
         ensures memory { IsErrOf result Failed.NoMemory → plan self.new seat ≡ plan self.old seat };

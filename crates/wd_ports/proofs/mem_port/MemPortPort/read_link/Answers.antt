@@ -1,0 +1,11 @@
+use Rattle.wd_ports.proofs.MemLinks.{mem_lost, mem_received, mem_ended}
+use Rattle.wd_ports.proofs.mem_port.MemPortPort.read_link.Goals as goal
+
+pub returns-then-fails_now-clause-tells : goal.returns-then-fails_now-clause-tells
+returns-then-fails_now-clause-tells c = mem_lost c.args.self.now c.set_gone.new.links.items _ c.set_gone.ensures
+
+pub returns-in_ok-add_received-in-Bytes-clause-tells : goal.returns-in_ok-add_received-in-Bytes-clause-tells
+returns-in_ok-add_received-in-Bytes-clause-tells c = mem_received c.args.self.now c.add_received.new.links.items c.args.link _ c.in_ok-add_received-in-Bytes.ensures.ok
+
+pub returns-in-End-clause-tells : goal.returns-in-End-clause-tells
+returns-in-End-clause-tells c = rw c.in-End.is (mem_ended c.args.self.now c.set_ended.new.links.items c.args.link c.set_ended.ensures)

@@ -1,0 +1,89 @@
+-- What a port in memory tells, and what its maker tells of it.
+use Rattle.std.specs.Prelude.{◌≡◌, ℕ, ◌+◌, ◌-◌, ◌≤◌, ◌<◌, true, false, List, [], ◌∷◌, ◌++◌, length, map, Some, slice_get, slice_set, slice_index_or}
+use Rattle.std.specs.Prelude.{unwrap_or}
+use Rattle.std.proofs.Common.{ap}
+use Rattle.std.proofs.lemmas.List.{length-map}
+use Rattle.std.proofs.Math.ListN.{get_or-map}
+use Rattle.wd_base.specs.declared.ids.LinkNo.{LinkNo}
+use Rattle.wd_base.specs.declared.ids.Seat.{Seat}
+use Rattle.wd_ports.specs.declared.told.LinkState.{LinkState}
+use Rattle.wd_ports.specs.declared.told.LinkOrigin.{LinkOrigin}
+use Rattle.wd_ports.specs.declared.told.Faults.{Faults}
+use Rattle.wd_ports.specs.declared.told.Side.{Side}
+use Rattle.wd_ports.specs.declared.plan.PortPlan.{PortPlan}
+use Rattle.wd_ports.specs.declared.mem_files.MemFiles.{MemFiles}
+use Rattle.wd_ports.specs.declared.mem_port.Source.{Source}
+use Rattle.wd_ports.specs.declared.mem_port.Source.TheVariants.{Arrival}
+use Rattle.wd_ports.specs.declared.mem_port.MemLink.{MemLink}
+use Rattle.wd_ports.specs.declared.mem_port.MemPort.{MemPort}
+use Rattle.wd_ports.specs.MemFiles.{stored}
+use Rattle.wd_ports.specs.Links.{side_of, IsOrigin}
+use Rattle.wd_ports.specs.Told.{Told, Has, blank, new_link}
+
+abbrev pub new_mem : LinkOrigin → Source → MemLink
+new_mem origin source = record { told = new_link origin; source = source; gone = false }
+
+abbrev pub blank_mem : MemLink
+blank_mem = record { told = blank; source = Arrival 0; gone = false }
+
+-- the link at a place
+abbrev pub mem_link : List MemLink → ℕ → MemLink
+mem_link links i = slice_index_or links i blank_mem
+
+-- what is told of the link there is changed
+abbrev pub changed : ℕ → (LinkState → LinkState) → List MemLink → List MemLink
+changed i change links = slice_set links i (record (mem_link links i) { told = change (mem_link links i).told })
+
+-- the link there is gone
+abbrev pub lost : ℕ → List MemLink → List MemLink
+lost i links = slice_set links i (record (mem_link links i) { gone = true })
+
+abbrev pub mem_told : MemPort → Told
+mem_told p = record {
+  sockets = p.sockets;
+  closed = p.closed;
+  given = length p.links.items;
+  links = Some (map (λ m. m.told) p.links.items);
+  files = Some (stored p.files);
+  hosts = Some p.hosts;
+}
+
+-- the port's own parts, and those of its files
+abbrev pub mem_faults : MemPort → Faults
+mem_faults p = record p.faults { files = p.files.faults }
+
+-- given, and not shut
+abbrev pub mem_usable : MemPort → LinkNo → Type 0
+mem_usable p n = (0 < n.0) × (n.0 ≤ length p.links.items) × ((mem_link p.links.items (n.0 - 1)).told.shuts ≡ 0)
+
+abbrev pub mem_side : MemPort → LinkNo → Side
+mem_side p n = side_of (mem_link p.links.items (n.0 - 1)).told.origin
+
+abbrev pub mem_gone : MemPort → LinkNo → Type 0
+mem_gone p n = (mem_link p.links.items (n.0 - 1)).gone ≡ true
+
+pub usable_has : (p : MemPort) (n : LinkNo) → mem_usable p n → Has (mem_told p) n
+usable_has p n h = (h.0, rw length-map h.1)
+
+pub origin_is : (p : MemPort) (n : LinkNo) → mem_usable p n → IsOrigin (mem_told p) n (mem_side p n)
+origin_is p n h = ap (λ l. side_of l.origin) (get_or-map (λ m. m.told) p.links.items (n.0 - 1) blank_mem)
+
+-- the sum of the parts of a count
+abbrev pub total_faults : Faults → ℕ
+total_faults f = f.files.read + f.files.list + f.files.write + f.listen + f.lookup + f.connect + f.read_accepted + f.read_connected + f.write_accepted + f.write_connected
+
+-- a plan's files, whose count begins at 0
+abbrev pub planned_files : PortPlan → MemFiles
+planned_files plan = record plan.files { faults = record { read = 0; list = 0; write = 0 } }
+
+-- what a port tells that was just made of a plan
+abbrev pub planned_told : PortPlan → Told
+planned_told plan = record { sockets = []; closed = false; given = 0; links = Some []; files = Some (stored plan.files); hosts = Some plan.hosts }
+
+-- the plan by which nothing happens
+abbrev pub empty_plan : PortPlan
+empty_plan = record { events = []; hosts = []; peers = []; files = record { files = []; folders = []; fail = []; calls = 0; faults = record { read = 0; list = 0; write = 0 } }; fail = [] }
+
+-- the plan of a seat; that of a seat without one is empty
+abbrev pub plan_at : List PortPlan → Seat → PortPlan
+plan_at plans seat = unwrap_or (slice_get plans seat.0) empty_plan

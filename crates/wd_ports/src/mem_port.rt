@@ -1,0 +1,445 @@
+ghost use Rattle.std.specs.Prelude.{◌≡◌, ◌≢◌, ℕ, ◌+◌, ◌-◌, ◌<◌, ◌≤◌, [], ◌∷◌, ◌++◌, List, length, take, map, min, Some, IfOk, OnOk, OnErr, IfSome, IsSome, ◌↔◌, IsTrue, IsErrOf};
+ghost use Rattle.wd_ports.specs.MemFiles.{stored};
+ghost use Rattle.wd_ports.specs.MemPort.{mem_told, mem_faults, mem_usable, mem_side, mem_gone, mem_link, changed, lost, new_mem, planned_told, planned_files, total_faults};
+ghost use Rattle.wd_ports.specs.Told.{IsNewPort, hosts_at, link_of, with_sent, with_received, with_end, with_shut};
+ghost use Rattle.wd_ports.specs.Faults.{no_faults, part, with_part, ReadLink, WriteLink};
+ghost use Rattle.wd_ports.specs.Links.{IsCount, side_of, last_link};
+
+use crate::mem_files::{MemFiles, fails_now};
+use crate::plan::{Hosts, Peers, PortPlan};
+use crate::port::{Files, Port};
+use crate::schedule::Schedule;
+use crate::told::{
+    Accepted, Failed, Faults, FileFaults, Got, LinkOrigin, LinkState, Names,
+};
+use std::alloc::Global;
+use wd_base::{Addr, Bytes, Ip4, Ips, LinkNo, NoMemory, Numbers, Seq, SockNo, TryClone};
+
+/// Where the bytes of a link in memory come from: an arrival of the plan, or a peer, each by its
+/// place.
+#[derive(Clone, Copy, Debug, PartialEq, Eq)]
+pub enum Source {
+    Arrival(usize),
+    Peer(usize),
+}
+
+/// A link of a port in memory: what is told of it, where its bytes come from, and whether it was
+/// found gone.
+#[derive(Debug, Drop)]
+pub struct MemLink {
+    told: LinkState,
+    source: Source,
+    gone: bool,
+}
+
+/// A port in memory, made of a plan. Its calls that can fail are numbered from 0, and one whose
+/// number stands in the plan's `fail` fails. Its marks start at 0, and rise at each `connect` that
+/// gives a link and at each `write_link`.
+#[derive(Debug, Drop)]
+pub struct MemPort {
+    sockets: Seq<Addr>,
+    closed: bool,
+    links: Vec<MemLink>,
+    files: MemFiles,
+    hosts: Hosts,
+    peers: Peers,
+    schedule: Schedule,
+    fail: Numbers,
+    calls: u64,
+    faults: Faults,
+}
+
+/// The count of a file store that has not failed.
+fn no_file_faults() -> FileFaults
+    ensures { result ≡ record { read = 0; list = 0; write = 0 } }
+{
+    FileFaults {
+        read: 0,
+        list: 0,
+        write: 0,
+    }
+}
+
+/// The count of a port that has not failed.
+fn never_failed() -> Faults
+    ensures { result ≡ no_faults }
+{
+    Faults {
+        files: no_file_faults(),
+        listen: 0,
+        lookup: 0,
+        connect: 0,
+        read_accepted: 0,
+        read_connected: 0,
+        write_accepted: 0,
+        write_connected: 0,
+    }
+}
+
+impl MemPort {
+    /// The port of a plan. The count of the plan's files begins at 0.
+    pub fn new(alloc: Global, plan: PortPlan) -> Result<MemPort, NoMemory>
+        ensures told { IfOk result (λ port. mem_told port ≡ planned_told plan) }
+        ensures files { IfOk result (λ port. port.files ≡ planned_files plan) }
+        ensures none { IfOk result (λ port. mem_faults port ≡ no_faults) }
+    {
+        let schedule = Schedule::new(alloc, plan.events)?;
+        let mut files = plan.files;
+        files.faults = no_file_faults();
+        Ok(MemPort {
+            sockets: Seq::new(alloc),
+            closed: false,
+            links: Vec::new(alloc),
+            files,
+            hosts: plan.hosts,
+            peers: plan.peers,
+            schedule,
+            fail: plan.fail,
+            calls: 0,
+            faults: never_failed(),
+        })
+    }
+
+    /// What was sent on a link that this port gave.
+    pub fn sent(&self, link: LinkNo) -> &Bytes
+        requires { (0 < link.0) × (link.0 ≤ (mem_told self.now).given) }
+        ensures { result.now ≡ (link_of (map (λ m. m.told) self.now.links.items) link).sent }
+    {
+        let at = link.0 as usize - 1;
+        let item = &self.links[at];
+        &item.told.sent
+    }
+
+    /// How often a link that this port gave was shut.
+    pub fn shuts(&self, link: LinkNo) -> u32
+        requires { (0 < link.0) × (link.0 ≤ (mem_told self.now).given) }
+        ensures { result ≡ (link_of (map (λ m. m.told) self.now.links.items) link).shuts }
+    {
+        let at = link.0 as usize - 1;
+        self.links[at].told.shuts
+    }
+
+    /// Its files.
+    pub fn files(&self) -> &MemFiles
+        ensures { result.now ≡ self.now.files }
+    {
+        &self.files
+    }
+
+    /// The parts of its count, its files' among them.
+    pub fn count(&self) -> Faults
+        ensures { result ≡ mem_faults self.now }
+    {
+        Faults {
+            files: self.files.faults,
+            ..self.faults
+        }
+    }
+
+    /// How often its calls have failed, its files' among them: the sum of the parts of its count,
+    /// at most the greatest u64.
+    pub fn fails(&self) -> u64
+        ensures { result ≡ min (total_faults (mem_faults self.now)) 18446744073709551615 }
+    {
+        let files = self.files.faults;
+        let own = self.faults;
+        files
+            .read
+            .saturating_add(files.list)
+            .saturating_add(files.write)
+            .saturating_add(own.listen)
+            .saturating_add(own.lookup)
+            .saturating_add(own.connect)
+            .saturating_add(own.read_accepted)
+            .saturating_add(own.read_connected)
+            .saturating_add(own.write_accepted)
+            .saturating_add(own.write_connected)
+    }
+}
+
+impl Files for MemPort {
+    ghost told = { mem_told };
+
+    ghost faults = { mem_faults };
+
+    ghost usable = { mem_usable };
+
+    ghost side = { mem_side };
+
+    ghost gone = { mem_gone };
+
+    fn read(&mut self, alloc: Global, path: &str) -> Result<Option<Bytes>, Failed> {
+        self.files.read(alloc, path)
+    }
+
+    fn list(&mut self, alloc: Global, path: &str) -> Result<Option<Names>, Failed> {
+        self.files.list(alloc, path)
+    }
+
+    fn write(&mut self, alloc: Global, path: &str, bytes: &[u8]) -> Result<(), Failed> {
+        self.files.write(alloc, path, bytes)
+    }
+}
+
+fn add_sent(links: &mut Vec<MemLink>, at: usize, bytes: &[u8]) -> Result<(), NoMemory>
+    requires { at < length links.old.items }
+    ensures ok { OnOk result (links.new.items ≡ changed at (with_sent bytes.now) links.old.items) }
+    ensures err { OnErr result (links.new.items ≡ links.old.items) }
+{
+    let link = &mut links[at];
+    link.told.sent.extend(bytes)
+}
+
+fn add_received(links: &mut Vec<MemLink>, at: usize, bytes: &[u8]) -> Result<(), NoMemory>
+    requires { at < length links.old.items }
+    ensures ok { OnOk result (links.new.items ≡ changed at (with_received bytes.now) links.old.items) }
+    ensures err { OnErr result (links.new.items ≡ links.old.items) }
+{
+    let link = &mut links[at];
+    link.told.received.extend(bytes)
+}
+
+fn set_ended(links: &mut Vec<MemLink>, at: usize)
+    requires { at < length links.old.items }
+    ensures { links.new.items ≡ changed at with_end links.old.items }
+{
+    let link = &mut links[at];
+    link.told.ended = true;
+}
+
+fn set_gone(links: &mut Vec<MemLink>, at: usize)
+    requires { at < length links.old.items }
+    ensures { links.new.items ≡ lost at links.old.items }
+{
+    let link = &mut links[at];
+    link.gone = true;
+}
+
+fn add_shut(links: &mut Vec<MemLink>, at: usize)
+    requires found { at < length links.old.items }
+    requires once { (mem_link links.old.items at).told.shuts ≡ 0 }
+    ensures { links.new.items ≡ changed at with_shut links.old.items }
+{
+    let link = &mut links[at];
+    link.told.shuts += 1;
+}
+
+/// Adds a link on which nothing came yet.
+fn add_link(
+    alloc: Global,
+    links: &mut Vec<MemLink>,
+    origin: LinkOrigin,
+    source: Source,
+) -> Result<(), NoMemory>
+    ensures ok { OnOk result (links.new.items ≡ links.old.items ++ new_mem origin source ∷ []) }
+    ensures err { OnErr result (links.new.items ≡ links.old.items) }
+{
+    let told = LinkState {
+        origin,
+        received: Seq::new(alloc),
+        ended: false,
+        sent: Seq::new(alloc),
+        shuts: 0,
+    };
+    let link = MemLink {
+        told,
+        source,
+        gone: false,
+    };
+    match links.push(link) {
+        Ok(()) => Ok(()),
+        Err(_) => Err(NoMemory),
+    }
+}
+
+/// The addresses of the first such host, if it has any.
+fn find_host(alloc: Global, hosts: &Hosts, host: &[u8]) -> Result<Option<Ips>, NoMemory>
+    ensures { IfOk result (λ found. IfSome found (λ ips. (0 < length ips) × (hosts_at hosts.now host.now ≡ Some ips))) }
+{
+    for item in hosts.as_slice() {
+        if item.0.as_slice() == host {
+            if item.1.is_empty() {
+                return Ok(None);
+            }
+            let ips = item.1.try_clone(alloc)?;
+            return Ok(Some(ips));
+        }
+    }
+    Ok(None)
+}
+
+/// The place of the first peer with that address and port.
+fn find_peer(peers: &Peers, ip: Ip4, port: u16) -> Option<usize> {
+    peers
+        .as_slice()
+        .iter()
+        .position(|peer| peer.ip.0 == ip.0 && peer.port == port)
+}
+
+fn count_read(faults: &mut Faults, origin: LinkOrigin)
+    ensures fits { part (ReadLink (side_of origin)) faults.old ≤ 18446744073709551615 }
+    ensures more { faults.new ≡ with_part (ReadLink (side_of origin)) faults.old (min (part (ReadLink (side_of origin)) faults.old + 1) 18446744073709551615) }
+{
+    match origin {
+        LinkOrigin::Socket(_) => faults.read_accepted = faults.read_accepted.saturating_add(1),
+        LinkOrigin::Peer(_, _) => faults.read_connected = faults.read_connected.saturating_add(1),
+    }
+}
+
+fn count_write(faults: &mut Faults, origin: LinkOrigin)
+    ensures fits { part (WriteLink (side_of origin)) faults.old ≤ 18446744073709551615 }
+    ensures more { faults.new ≡ with_part (WriteLink (side_of origin)) faults.old (min (part (WriteLink (side_of origin)) faults.old + 1) 18446744073709551615) }
+{
+    match origin {
+        LinkOrigin::Socket(_) => faults.write_accepted = faults.write_accepted.saturating_add(1),
+        LinkOrigin::Peer(_, _) => faults.write_connected = faults.write_connected.saturating_add(1),
+    }
+}
+
+/// Reads on from where the bytes of a link come from, behind those that were read.
+fn read_source(
+    schedule: &mut Schedule,
+    peers: &Peers,
+    source: Source,
+    read: usize,
+    buf: &mut [u8],
+) -> Got
+    requires { 0 < length buf.old }
+    ensures { IsCount result (length buf.new) }
+{
+    match source {
+        Source::Arrival(arrival) => schedule.read(arrival, read, buf),
+        Source::Peer(at) => match peers.get(at) {
+            Some(peer) => schedule.read_reply(peer, read, buf),
+            None => Got::Later,
+        },
+    }
+}
+
+impl Port for MemPort {
+    fn listen(&mut self, alloc: Global, address: &Addr) -> Result<SockNo, Failed> {
+        if fails_now(&self.fail, &mut self.calls) {
+            self.faults.listen = self.faults.listen.saturating_add(1);
+            return Err(Failed::Fault);
+        }
+        let Ok(number) = u32::try_from(self.sockets.len()) else {
+            self.faults.listen = self.faults.listen.saturating_add(1);
+            return Err(Failed::Fault);
+        };
+        let address = address.try_clone(alloc)?;
+        self.sockets.push(address)?;
+        Ok(SockNo(number))
+    }
+
+    fn accept(&mut self, alloc: Global) -> Result<Accepted, NoMemory> {
+        let number = self.links.len();
+        if self.closed || number >= u32::MAX as usize {
+            self.closed = true;
+            return Ok(Accepted::Closed);
+        }
+        match self.schedule.next_arrival(self.sockets.len()) {
+            Some((at, socket)) => {
+                add_link(
+                    alloc,
+                    &mut self.links,
+                    LinkOrigin::Socket(socket),
+                    Source::Arrival(at),
+                )?;
+                self.schedule.take_arrival(at);
+                Ok(Accepted::Link(socket, LinkNo(number as u32 + 1)))
+            }
+            None if self.schedule.is_over() => {
+                self.closed = true;
+                Ok(Accepted::Closed)
+            }
+            None => Ok(Accepted::Later),
+        }
+    }
+
+    fn lookup(&mut self, alloc: Global, host: &str) -> Result<Ips, Failed> {
+        if fails_now(&self.fail, &mut self.calls) {
+            self.faults.lookup = self.faults.lookup.saturating_add(1);
+            return Err(Failed::Fault);
+        }
+        match find_host(alloc, &self.hosts, host.as_bytes())? {
+            Some(ips) => Ok(ips),
+            None => {
+                self.faults.lookup = self.faults.lookup.saturating_add(1);
+                Err(Failed::Fault)
+            }
+        }
+    }
+
+    fn connect(&mut self, alloc: Global, ip: Ip4, port: u16) -> Result<LinkNo, Failed> {
+        let number = self.links.len();
+        if fails_now(&self.fail, &mut self.calls) || number >= u32::MAX as usize {
+            self.faults.connect = self.faults.connect.saturating_add(1);
+            return Err(Failed::Fault);
+        }
+        match find_peer(&self.peers, ip, port) {
+            Some(peer) => {
+                let origin = LinkOrigin::Peer(ip, port);
+                add_link(alloc, &mut self.links, origin, Source::Peer(peer))?;
+                self.schedule.mark();
+                Ok(LinkNo(number as u32 + 1))
+            }
+            None => {
+                self.faults.connect = self.faults.connect.saturating_add(1);
+                Err(Failed::Fault)
+            }
+        }
+    }
+
+    fn read_link(&mut self, link: LinkNo, buf: &mut [u8]) -> Result<Got, Failed> {
+        let at = link.0 as usize - 1;
+        if fails_now(&self.fail, &mut self.calls) {
+            count_read(&mut self.faults, self.links[at].told.origin);
+            set_gone(&mut self.links, at);
+            return Err(Failed::Fault);
+        }
+        let source = self.links[at].source;
+        let read = self.links[at].told.received.len();
+        let got = read_source(&mut self.schedule, &self.peers, source, read, buf);
+        match got {
+            Got::Bytes(count) => add_received(&mut self.links, at, &buf[..count])?,
+            Got::Later => {}
+            Got::End => set_ended(&mut self.links, at),
+        }
+        Ok(got)
+    }
+
+    fn write_link(&mut self, link: LinkNo, bytes: &[u8]) -> Result<usize, Failed> {
+        let at = link.0 as usize - 1;
+        if fails_now(&self.fail, &mut self.calls) {
+            count_write(&mut self.faults, self.links[at].told.origin);
+            set_gone(&mut self.links, at);
+            return Err(Failed::Fault);
+        }
+        add_sent(&mut self.links, at, bytes)?;
+        self.schedule.mark();
+        Ok(bytes.len())
+    }
+
+    fn gone(&mut self, link: LinkNo) -> bool {
+        let at = link.0 as usize - 1;
+        if let Source::Arrival(arrival) = self.links[at].source {
+            if self.schedule.is_gone(arrival) {
+                set_gone(&mut self.links, at);
+                return true;
+            }
+        }
+        self.links[at].gone
+    }
+
+    fn shut(&mut self, link: LinkNo) {
+        add_shut(&mut self.links, link.0 as usize - 1);
+    }
+
+    fn idle(&mut self) {}
+
+    ghost use Rattle.wd_ports.specs.MemPort.{usable_has, origin_is};
+
+    ghost usable_link = { usable_has };
+
+    ghost origin = { origin_is };
+}
