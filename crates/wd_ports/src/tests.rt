@@ -1,3 +1,4 @@
+ghost use Rattle.std.specs.Prelude.{All};
 ghost use Rattle.wd_ports.specs.Links.{Keeps};
 
 use crate::maker::Maker;
@@ -21,11 +22,6 @@ fn numbers(alloc: Global, items: &[u64]) -> Result<Numbers, NoMemory> {
     Seq::copy(alloc, items)
 }
 
-fn address(alloc: Global) -> Result<Addr, NoMemory> {
-    let host = bytes(alloc, b"*")?;
-    Ok(Addr { host, port: 80 })
-}
-
 fn empty_plan(alloc: Global) -> PortPlan {
     PortPlan {
         events: Seq::new(alloc),
@@ -36,19 +32,182 @@ fn empty_plan(alloc: Global) -> PortPlan {
     }
 }
 
-/// The answer of a read of at most four bytes, as a text.
-fn read_text<P: Port>(alloc: Global, port: &mut P, link: LinkNo) -> Result<Bytes, NoMemory>
+/// A call of a port. Links are named by their places in the order in which the port gave them.
+#[derive(Clone, Copy, Debug, PartialEq, Eq)]
+enum Step {
+    Listen,
+    Accept,
+    Lookup(&'static str),
+    Connect(u16),
+    Read(usize),
+    Write(usize),
+    Gone(usize),
+}
+
+/// The bytes that were read, or another answer in words. At most four bytes are read.
+fn read_answer<P: Port>(alloc: Global, port: &mut P, link: LinkNo) -> Result<Bytes, NoMemory>
     requires { P.usable port.old link }
     ensures { Keeps (P.usable port.old) (P.side port.old) (P.usable port.new) (P.side port.new) }
 {
     let mut buf = [0u8; 4];
     match port.read_link(link, &mut buf) {
         Ok(Got::Bytes(count)) => Seq::copy(alloc, &buf[..count]),
-        Ok(Got::Later) => Seq::copy(alloc, b"(later)"),
-        Ok(Got::End) => Seq::copy(alloc, b"(end)"),
-        Err(Failed::Fault) => Seq::copy(alloc, b"(fault)"),
+        Ok(Got::Later) => Seq::copy(alloc, b"later"),
+        Ok(Got::End) => Seq::copy(alloc, b"end"),
+        Err(Failed::Fault) => Seq::copy(alloc, b"fault"),
         Err(Failed::NoMemory) => Err(NoMemory),
     }
+}
+
+/// `sent` where both bytes of "xy" were sent.
+fn write_answer<P: Port>(alloc: Global, port: &mut P, link: LinkNo) -> Result<Bytes, NoMemory>
+    requires { P.usable port.old link }
+    ensures { Keeps (P.usable port.old) (P.side port.old) (P.usable port.new) (P.side port.new) }
+{
+    match port.write_link(link, b"xy") {
+        Ok(2) => Seq::copy(alloc, b"sent"),
+        Ok(_) => Seq::copy(alloc, b"sent less"),
+        Err(Failed::Fault) => Seq::copy(alloc, b"fault"),
+        Err(Failed::NoMemory) => Err(NoMemory),
+    }
+}
+
+fn gone_answer<P: Port>(alloc: Global, port: &mut P, link: LinkNo) -> Result<Bytes, NoMemory>
+    requires { P.usable port.old link }
+    ensures { Keeps (P.usable port.old) (P.side port.old) (P.usable port.new) (P.side port.new) }
+{
+    if port.gone(link) {
+        Seq::copy(alloc, b"gone")
+    } else {
+        Seq::copy(alloc, b"here")
+    }
+}
+
+fn digit(number: u32) -> u8 {
+    b'0' + (number % 10) as u8
+}
+
+/// `socket` and its number.
+fn listen_answer<P: Port>(alloc: Global, port: &mut P) -> Result<Bytes, NoMemory>
+    ensures { Keeps (P.usable port.old) (P.side port.old) (P.usable port.new) (P.side port.new) }
+{
+    let host = Seq::copy(alloc, b"*")?;
+    let mut text = Seq::copy(alloc, b"socket ")?;
+    match port.listen(alloc, &Addr { host, port: 80 }) {
+        Ok(socket) => {
+            text.push(digit(socket.0))?;
+            Ok(text)
+        }
+        Err(Failed::Fault) => Seq::copy(alloc, b"fault"),
+        Err(Failed::NoMemory) => Err(NoMemory),
+    }
+}
+
+/// The last bytes of the addresses.
+fn lookup_answer<P: Port>(alloc: Global, port: &mut P, host: &str) -> Result<Bytes, NoMemory>
+    ensures { Keeps (P.usable port.old) (P.side port.old) (P.usable port.new) (P.side port.new) }
+{
+    let mut text = Seq::new(alloc);
+    match port.lookup(alloc, host) {
+        Ok(ips) => {
+            for ip in ips.as_slice() {
+                text.push(digit(ip.0))?;
+            }
+            Ok(text)
+        }
+        Err(Failed::Fault) => Seq::copy(alloc, b"fault"),
+        Err(Failed::NoMemory) => Err(NoMemory),
+    }
+}
+
+/// The socket and the number of a link, which joins the others.
+fn accept_answer<P: Port>(
+    alloc: Global,
+    port: &mut P,
+    links: &mut Seq<LinkNo>,
+) -> Result<Bytes, NoMemory>
+    requires { All (P.usable port.old) links.old }
+    ensures { All (P.usable port.new) links.new }
+{
+    let mut text = Seq::copy(alloc, b"link ")?;
+    match port.accept(alloc)? {
+        Accepted::Link(socket, link) => {
+            links.push(link)?;
+            text.push(digit(socket.0))?;
+            text.push(digit(link.0))?;
+            Ok(text)
+        }
+        Accepted::Later => Seq::copy(alloc, b"later"),
+        Accepted::Closed => Seq::copy(alloc, b"closed"),
+    }
+}
+
+/// The number of a link to address 1, which joins the others.
+fn connect_answer<P: Port>(
+    alloc: Global,
+    port: &mut P,
+    links: &mut Seq<LinkNo>,
+    to: u16,
+) -> Result<Bytes, NoMemory>
+    requires { All (P.usable port.old) links.old }
+    ensures { All (P.usable port.new) links.new }
+{
+    let mut text = Seq::copy(alloc, b"link ")?;
+    match port.connect(alloc, Ip4(1), to) {
+        Ok(link) => {
+            links.push(link)?;
+            text.push(digit(link.0))?;
+            Ok(text)
+        }
+        Err(Failed::Fault) => Seq::copy(alloc, b"fault"),
+        Err(Failed::NoMemory) => Err(NoMemory),
+    }
+}
+
+/// The answer of a call.
+fn answer<P: Port>(
+    alloc: Global,
+    port: &mut P,
+    links: &mut Seq<LinkNo>,
+    step: Step,
+) -> Result<Bytes, NoMemory>
+    requires { All (P.usable port.old) links.old }
+    ensures { All (P.usable port.new) links.new }
+{
+    match step {
+        Step::Listen => listen_answer(alloc, port),
+        Step::Accept => accept_answer(alloc, port, links),
+        Step::Lookup(host) => lookup_answer(alloc, port, host),
+        Step::Connect(to) => connect_answer(alloc, port, links, to),
+        Step::Read(at) => match links.get(at) {
+            Some(link) => read_answer(alloc, port, *link),
+            None => Seq::copy(alloc, b"no link"),
+        },
+        Step::Write(at) => match links.get(at) {
+            Some(link) => write_answer(alloc, port, *link),
+            None => Seq::copy(alloc, b"no link"),
+        },
+        Step::Gone(at) => match links.get(at) {
+            Some(link) => gone_answer(alloc, port, *link),
+            None => Seq::copy(alloc, b"no link"),
+        },
+    }
+}
+
+/// The first step whose answer is another one.
+fn first_wrong<P: Port>(
+    alloc: Global,
+    port: &mut P,
+    steps: &[(Step, &'static str)],
+) -> Result<Option<usize>, NoMemory> {
+    let mut links = Seq::new(alloc);
+    for at in 0..steps.len() {
+        let text = answer(alloc, port, &mut links, steps[at].0)?;
+        if text.as_slice() != steps[at].1.as_bytes() {
+            return Ok(Some(at));
+        }
+    }
+    Ok(None)
 }
 
 /// Three links come, the second at a socket that is not listened at; so the third of the plan is
@@ -72,93 +231,80 @@ fn three_links(alloc: Global) -> Result<PortPlan, NoMemory> {
 #[test]
 fn events_happen_at_their_marks(rt: HostRuntime) -> Result<(), Fail> {
     let alloc = rt.alloc();
-    let plan = three_links(alloc)?;
-    let mut port = MemPort::new(alloc, plan)?;
-    let at = address(alloc)?;
-    assert_eq!(rt; port.listen(alloc, &at), Ok(SockNo(0)));
-    let Ok(Accepted::Link(SockNo(0), LinkNo(1))) = port.accept(alloc) else {
-        panic!(rt; "no link");
-    };
-    assert_eq!(rt; port.accept(alloc), Ok(Accepted::Later));
-    for want in [b"ab".as_slice(), b"cdef", b"g", b"(later)"] {
-        assert_eq!(rt; read_text(alloc, &mut port, LinkNo(1))?.as_slice(), want);
-    }
-    assert_eq!(rt; port.write_link(LinkNo(1), b"x"), Ok(1));
-    let Ok(Accepted::Link(SockNo(0), LinkNo(2))) = port.accept(alloc) else {
-        panic!(rt; "no second link");
-    };
-    assert_eq!(rt; read_text(alloc, &mut port, LinkNo(2))?.as_slice(), b"z".as_slice());
-    assert_eq!(rt; read_text(alloc, &mut port, LinkNo(2))?.as_slice(), b"(later)".as_slice());
-    assert_eq!(rt; read_text(alloc, &mut port, LinkNo(1))?.as_slice(), b"(later)".as_slice());
-    assert_eq!(rt; port.write_link(LinkNo(2), b"yy"), Ok(2));
-    assert_eq!(rt; read_text(alloc, &mut port, LinkNo(1))?.as_slice(), b"(end)".as_slice());
-    assert!(rt; !port.gone(LinkNo(1)));
-    assert_eq!(rt; port.accept(alloc), Ok(Accepted::Later));
-    assert_eq!(rt; port.write_link(LinkNo(2), b"w"), Ok(1));
-    assert!(rt; port.gone(LinkNo(1)));
-    assert!(rt; !port.gone(LinkNo(2)));
-    assert_eq!(rt; port.accept(alloc), Ok(Accepted::Closed));
-    assert_eq!(rt; port.accept(alloc), Ok(Accepted::Closed));
-    assert_eq!(rt; port.sent(LinkNo(2)).as_slice(), b"yyw".as_slice());
-    assert_eq!(rt; port.shuts(LinkNo(1)), 0);
-    port.shut(LinkNo(1));
+    let mut port = MemPort::new(alloc, three_links(alloc)?)?;
+    let steps = [
+        (Step::Listen, "socket 0"),
+        (Step::Accept, "link 01"),
+        (Step::Accept, "later"),
+        (Step::Read(0), "ab"),
+        (Step::Read(0), "cdef"),
+        (Step::Read(0), "g"),
+        (Step::Read(0), "later"),
+        (Step::Write(0), "sent"),
+        (Step::Accept, "link 02"),
+        (Step::Read(1), "z"),
+        (Step::Read(1), "later"),
+        (Step::Read(0), "later"),
+        (Step::Accept, "later"),
+        (Step::Write(1), "sent"),
+        (Step::Read(0), "end"),
+        (Step::Gone(0), "here"),
+        (Step::Accept, "later"),
+        (Step::Write(1), "sent"),
+        (Step::Gone(0), "gone"),
+        (Step::Gone(1), "here"),
+        (Step::Accept, "closed"),
+        (Step::Accept, "closed"),
+    ];
+    assert_eq!(rt; first_wrong(alloc, &mut port, &steps)?, None);
     assert_eq!(rt; port.fails(), 0);
     Ok(())
+}
+
+/// A peer at address 1 and port 80.
+fn add_peer(alloc: Global, plan: &mut PortPlan, mark: u64) -> Result<(), NoMemory> {
+    let reply = bytes(alloc, b"reply")?;
+    plan.peers.push(Peer {
+        ip: Ip4(1),
+        port: 80,
+        reply,
+        mark,
+    })
+}
+
+/// A host with the addresses 1 and 2, and one without an address.
+fn add_hosts(alloc: Global, plan: &mut PortPlan) -> Result<(), NoMemory> {
+    let ips = Seq::copy(alloc, &[Ip4(1), Ip4(2)])?;
+    let some = bytes(alloc, b"a.test")?;
+    let none = bytes(alloc, b"b.test")?;
+    plan.hosts.push((some, ips))?;
+    plan.hosts.push((none, Seq::new(alloc)))
 }
 
 #[test]
 fn peers_reply_after_their_mark(rt: HostRuntime) -> Result<(), Fail> {
     let alloc = rt.alloc();
     let mut plan = empty_plan(alloc);
-    let reply = bytes(alloc, b"reply")?;
-    plan.peers.push(Peer {
-        ip: Ip4(1),
-        port: 80,
-        reply,
-        mark: 2,
-    })?;
-    let mut ips = Seq::new(alloc);
-    ips.push(Ip4(1))?;
-    let some = bytes(alloc, b"a.test")?;
-    let none = bytes(alloc, b"b.test")?;
-    plan.hosts.push((some, ips))?;
-    plan.hosts.push((none, Seq::new(alloc)))?;
+    add_peer(alloc, &mut plan, 2)?;
+    add_hosts(alloc, &mut plan)?;
     let mut port = MemPort::new(alloc, plan)?;
-    let Ok(found) = port.lookup(alloc, "a.test") else {
-        panic!(rt; "no address");
-    };
-    assert_eq!(rt; found.as_slice(), [Ip4(1)].as_slice());
-    for host in ["b.test", "c.test"] {
-        let Err(Failed::Fault) = port.lookup(alloc, host) else {
-            panic!(rt; "an address of {host}");
-        };
-    }
-    assert_eq!(rt; port.connect(alloc, Ip4(1), 81), Err(Failed::Fault));
-    let Ok(link) = port.connect(alloc, Ip4(1), 80) else {
-        panic!(rt; "no link");
-    };
-    assert_eq!(rt; link, LinkNo(1));
-    assert_eq!(rt; read_text(alloc, &mut port, link)?.as_slice(), b"(later)".as_slice());
-    assert_eq!(rt; port.write_link(link, b"hello"), Ok(5));
-    for want in [b"repl".as_slice(), b"y", b"(end)", b"(end)"] {
-        assert_eq!(rt; read_text(alloc, &mut port, link)?.as_slice(), want);
-    }
-    assert_eq!(rt; port.accept(alloc), Ok(Accepted::Closed));
+    let steps = [
+        (Step::Lookup("a.test"), "12"),
+        (Step::Lookup("b.test"), "fault"),
+        (Step::Lookup("c.test"), "fault"),
+        (Step::Connect(81), "fault"),
+        (Step::Connect(80), "link 1"),
+        (Step::Read(0), "later"),
+        (Step::Write(0), "sent"),
+        (Step::Read(0), "repl"),
+        (Step::Read(0), "y"),
+        (Step::Read(0), "end"),
+        (Step::Read(0), "end"),
+        (Step::Accept, "closed"),
+    ];
+    assert_eq!(rt; first_wrong(alloc, &mut port, &steps)?, None);
     assert_eq!(rt; port.fails(), 3);
     Ok(())
-}
-
-/// The parts of a port's count, in the order of their names.
-fn parts(count: Faults) -> [u64; 7] {
-    [
-        count.listen,
-        count.lookup,
-        count.connect,
-        count.read_accepted,
-        count.read_connected,
-        count.write_accepted,
-        count.write_connected,
-    ]
 }
 
 #[test]
@@ -166,40 +312,38 @@ fn calls_fail_by_their_numbers(rt: HostRuntime) -> Result<(), Fail> {
     let alloc = rt.alloc();
     let mut plan = empty_plan(alloc);
     plan.events.push((0, PortEvent::Accept(SockNo(0))))?;
-    let reply = bytes(alloc, b"reply")?;
-    plan.peers.push(Peer {
-        ip: Ip4(1),
-        port: 80,
-        reply,
-        mark: 0,
-    })?;
+    add_peer(alloc, &mut plan, 0)?;
     plan.fail = numbers(alloc, &[0, 2, 3, 5, 6, 7, 8])?;
     let mut port = MemPort::new(alloc, plan)?;
-    let at = address(alloc)?;
-    assert_eq!(rt; port.listen(alloc, &at), Err(Failed::Fault));
-    assert_eq!(rt; parts(port.count()), [1, 0, 0, 0, 0, 0, 0]);
-    assert_eq!(rt; port.listen(alloc, &at), Ok(SockNo(0)));
-    let Err(Failed::Fault) = port.lookup(alloc, "a.test") else {
-        panic!(rt; "an address");
+    let steps = [
+        (Step::Listen, "fault"),
+        (Step::Listen, "socket 0"),
+        (Step::Lookup("a.test"), "fault"),
+        (Step::Connect(80), "fault"),
+        (Step::Connect(80), "link 1"),
+        (Step::Accept, "link 02"),
+        (Step::Read(0), "fault"),
+        (Step::Read(1), "fault"),
+        (Step::Write(0), "fault"),
+        (Step::Write(1), "fault"),
+        (Step::Gone(0), "gone"),
+    ];
+    assert_eq!(rt; first_wrong(alloc, &mut port, &steps)?, None);
+    let once = Faults {
+        files: FileFaults {
+            read: 0,
+            list: 0,
+            write: 0,
+        },
+        listen: 1,
+        lookup: 1,
+        connect: 1,
+        read_accepted: 1,
+        read_connected: 1,
+        write_accepted: 1,
+        write_connected: 1,
     };
-    assert_eq!(rt; parts(port.count()), [1, 1, 0, 0, 0, 0, 0]);
-    assert_eq!(rt; port.connect(alloc, Ip4(1), 80), Err(Failed::Fault));
-    assert_eq!(rt; parts(port.count()), [1, 1, 1, 0, 0, 0, 0]);
-    let Ok(made) = port.connect(alloc, Ip4(1), 80) else {
-        panic!(rt; "no link");
-    };
-    let Ok(Accepted::Link(_, taken)) = port.accept(alloc) else {
-        panic!(rt; "no link at the socket");
-    };
-    assert_eq!(rt; read_text(alloc, &mut port, taken)?.as_slice(), b"(fault)".as_slice());
-    assert_eq!(rt; parts(port.count()), [1, 1, 1, 1, 0, 0, 0]);
-    assert_eq!(rt; read_text(alloc, &mut port, made)?.as_slice(), b"(fault)".as_slice());
-    assert_eq!(rt; parts(port.count()), [1, 1, 1, 1, 1, 0, 0]);
-    assert_eq!(rt; port.write_link(taken, b"x"), Err(Failed::Fault));
-    assert_eq!(rt; parts(port.count()), [1, 1, 1, 1, 1, 1, 0]);
-    assert_eq!(rt; port.write_link(made, b"x"), Err(Failed::Fault));
-    assert_eq!(rt; parts(port.count()), [1, 1, 1, 1, 1, 1, 1]);
-    assert!(rt; port.gone(taken));
+    assert_eq!(rt; port.count(), once);
     assert_eq!(rt; port.fails(), 7);
     Ok(())
 }

@@ -6,3 +6,4 @@ pub mod HeadUnique
 pub mod StreamSteps
 pub mod FormUnique
 pub mod ConfigSteps
+pub mod EmbedSteps

@@ -67,7 +67,7 @@ pub plain_at : (xs : List ℕ) (i : ℕ) → i < length xs → is_plain (get_or 
 plain_at xs i h plain = ap literal_value (from_place xs i h) ∙ plain_head (get_or xs i 0) (drop (i + 1) xs) (not_mark (get_or xs i 0) plain) plain
 
 -- a test of equality that fails
-differs : (a b : ℕ) (t : Bool) → (a == b) ≡ t → (a ≡ b → ⊥) → t ≡ false
+pub differs : (a b : ℕ) (t : Bool) → (a == b) ≡ t → (a ≡ b → ⊥) → t ≡ false
 differs a b true e apart = absurd (apart (eqb-true a b e))
 differs a b false e apart = refl
 

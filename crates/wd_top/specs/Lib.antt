@@ -7,3 +7,4 @@ pub mod Stream
 pub mod Conn
 pub mod Text
 pub mod Config
+pub mod Embed

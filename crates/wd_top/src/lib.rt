@@ -4,6 +4,7 @@
 
 mod command;
 mod config;
+mod embed;
 mod form;
 mod holes;
 mod http_in;
