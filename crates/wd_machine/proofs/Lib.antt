@@ -1,0 +1,4 @@
+pub mod KeyedLemmas
+pub mod RunLemmas
+pub mod SameLemmas
+pub mod StepLemmas

@@ -1,0 +1,10 @@
+pub mod Meaning
+pub mod Keyed
+pub mod Found
+pub mod Same
+pub mod Ends
+pub mod Entries
+pub mod Rules
+pub mod Steps
+pub mod First
+pub mod Runs
