@@ -8,3 +8,4 @@ pub mod Conn
 pub mod Text
 pub mod Config
 pub mod Embed
+pub mod Constant

@@ -4,6 +4,7 @@
 
 mod command;
 mod config;
+mod constant;
 mod embed;
 mod form;
 mod holes;
