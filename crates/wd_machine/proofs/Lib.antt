@@ -1,3 +1,4 @@
+pub mod FirstLemmas
 pub mod KeyedLemmas
 pub mod RunLemmas
 pub mod SameLemmas

@@ -1,5 +1,5 @@
 ghost use Rattle.std.specs.Prelude.{◌≡◌, IfOk, OnOk, IsTrue, Err, false};
-ghost use Rattle.wd_machine.specs.declared.refusal.ApplyEnd.TheVariants.{NoMemory};
+ghost use Rattle.wd_machine.specs.declared.refusal.ApplyEnd.TheVariants.{NoMemory as WantOfMemory};
 ghost use Rattle.wd_machine.specs.First.{AreFirst, first_state};
 ghost use Rattle.wd_machine.specs.Runs.{Applies, Takes};
 
@@ -42,7 +42,7 @@ impl<I: Isolate> Core<I> {
     /// that it breaks, and changes nothing. After `NoMemory` each further call answers `NoMemory`.
     pub fn apply(&mut self, entry: &Entry) -> Result<(), ApplyEnd>
         ensures step { Applies I.means self.old entry.now self.new result }
-        ensures failed { IsTrue self.old.failed → result ≡ Err NoMemory }
+        ensures failed { IsTrue self.old.failed → result ≡ Err WantOfMemory }
     {
         if self.failed {
             return Err(ApplyEnd::NoMemory);

@@ -1,4 +1,4 @@
-ghost use Rattle.std.specs.Prelude.{◌≡◌, IfOk, OnOk, is_some};
+ghost use Rattle.std.specs.Prelude.{◌≡◌, ◌∷◌, ◌++◌, [], IfOk, OnOk, is_some};
 ghost use Rattle.std.specs.List.{position_from};
 ghost use Rattle.std.specs.Option.{option_copied};
 ghost use Rattle.wd_graph.specs.Names.{worker_in};
@@ -13,10 +13,11 @@ use crate::isolate::Isolate;
 use crate::journal::{Entry, Head};
 use crate::refusal::Refused;
 use crate::rules::{
-    arrive_refused, begin_refused, drain_refused, nothing_refused, number_refused, turn_refused,
+    arrive_refused, begin_refused_at, drain_refused, nothing_refused, number_refused,
+    turn_refused_at,
 };
 use crate::state::{Due, RequestState, Run, Waiter, WorkerState};
-use crate::steps::{add_waiter, give_back, new_request, push_named, run_front, start_run, stop_run};
+use crate::steps::{add_request, add_waiter, give_back, new_request, push_named, run_front, start_run, stop_run};
 use crate::turn::Out;
 use std::alloc::Global;
 use std::marker::Model;
@@ -134,14 +135,10 @@ impl<I> Machine<I> {
         requires { ArePlaces self.now.workers self.now.requests places }
         ensures { result ≡ broken_begin (request_of places.req.0 self.now.requests) (worker_for (request_of places.req.0 self.now.requests) self.now.workers) self.now.running self.now.due seat.0 places.req.0 }
     {
-        begin_refused(
-            request_at(self.requests.as_slice(), places),
-            worker_at(self.workers.as_slice(), self.requests.as_slice(), places),
-            self.running.as_slice(),
-            self.due.as_slice(),
-            seat,
-            places.req,
-        )
+        let workers = self.workers.as_slice();
+        let rows = self.requests.as_slice();
+        let running = self.running.as_slice();
+        begin_refused_at(workers, rows, running, self.due.as_slice(), places, seat)
     }
 
     /// Why the seat's turn of the request may not end with this `Out`, if it may not.
@@ -154,15 +151,10 @@ impl<I> Machine<I> {
         requires { ArePlaces self.now.workers self.now.requests places }
         ensures { IfOk result (λ r. r ≡ broken_turn (request_of places.req.0 self.now.requests) (worker_for (request_of places.req.0 self.now.requests) self.now.workers) self.now.running seat.0 places.req.0 out.now) }
     {
-        turn_refused(
-            *self.requests.allocator(),
-            request_at(self.requests.as_slice(), places),
-            worker_at(self.workers.as_slice(), self.requests.as_slice(), places),
-            self.running.as_slice(),
-            seat,
-            places.req,
-            out,
-        )
+        let alloc = *self.requests.allocator();
+        let workers = self.workers.as_slice();
+        let rows = self.requests.as_slice();
+        turn_refused_at(alloc, workers, rows, self.running.as_slice(), places, seat, out)
     }
 
     /// A request arrives; `worker` is the place of the Worker of the service's name, if it is one.
@@ -182,9 +174,7 @@ impl<I> Machine<I> {
     {
         let alloc = *self.requests.allocator();
         let row = new_request(alloc, seat, req, service, origin, allow);
-        if self.requests.push(row).is_err() {
-            return Err(NoMemory);
-        }
+        add_request(&mut self.requests, row)?;
         let Some(place) = worker else {
             return Ok(());
         };
@@ -320,13 +310,14 @@ fn first_workers<I: Isolate + Drop>(
     let mut isolates = isolates;
     let mut workers = Vec::new(alloc);
     for service in services {
-        if is_worker(service) && !isolates.is_empty() {
-            let isolate = isolates.remove(0);
-            let worker = idle_worker(alloc, service, isolate)?;
-            if workers.push(worker).is_err() {
-                return Err(NoMemory);
-            }
+        if !is_worker(service) {
+            continue;
         }
+        if isolates.is_empty() {
+            continue;
+        }
+        let isolate = isolates.remove(0);
+        add_worker(alloc, &mut workers, service, isolate)?;
     }
     Ok(workers)
 }
@@ -341,20 +332,25 @@ fn is_worker(service: &Service) -> bool
     }
 }
 
-/// A Worker before any entry.
-fn idle_worker<I: Drop>(
+/// Adds a Worker as it stands before any entry.
+fn add_worker<I: Drop>(
     alloc: Global,
+    workers: &mut Vec<WorkerState<I>>,
     service: &Service,
     isolate: I,
-) -> Result<WorkerState<I>, NoMemory>
-    ensures { IfOk result (λ worker. worker ≡ idle_worker service.now.name isolate) }
+) -> Result<(), NoMemory>
+    ensures { OnOk result (workers.new.items ≡ workers.old.items ++ idle_worker service.now.name isolate ∷ []) }
 {
     let name = service.name.try_clone(alloc)?;
-    Ok(WorkerState {
+    let worker = WorkerState {
         name,
         isolate,
         generation: 0,
         holder: None,
         waiters: Seq::new(alloc),
-    })
+    };
+    if workers.push(worker).is_err() {
+        return Err(NoMemory);
+    }
+    Ok(())
 }

@@ -3,12 +3,14 @@ ghost use Rattle.std.specs.Option.{option_copied};
 ghost use Rattle.wd_machine.specs.declared.refusal.Kept.TheVariants.{Number, Name, Field, Nothing};
 ghost use Rattle.wd_graph.specs.Names.{is_public};
 ghost use Rattle.wd_machine.specs.Ends.{whole_out};
-ghost use Rattle.wd_machine.specs.Found.{waiters_at, waiting, front, holder_of};
+ghost use Rattle.wd_machine.specs.Found.{ArePlaces, request_of, worker_for, waiters_at, waiting, front, holder_of};
 ghost use Rattle.wd_machine.specs.Rules.{kept_number, is_number, is_open, is_whole, is_live_on, broken_arrive, broken_origin, broken_begin, broken_front, broken_turn, broken_pending, broken_field, broken_drain};
 ghost use Rattle.wd_machine.specs.Same.{first_difference, last_difference, is_same};
 
 use crate::ends::{failure, is_hung};
-use crate::find::{due_count, request_named, run_on, waits_in};
+use crate::find::{
+    Places, due_count, request_at, request_named, run_on, waits_in, worker_at,
+};
 use crate::journal::Head;
 use crate::refusal::{Kept, Refused};
 use crate::state::{Due, Pending, RequestState, Run, Waiter, WorkerState};
@@ -182,8 +184,25 @@ fn is_live_on(row: Option<&RequestState>, seat: Seat) -> bool
     }
 }
 
+/// Why the request's turn may not begin on the seat, if it may not.
+pub fn begin_refused_at<I>(
+    workers: &[WorkerState<I>],
+    rows: &[RequestState],
+    running: &[Run],
+    due: &[Due],
+    places: Places,
+    seat: Seat,
+) -> Option<Refused>
+    requires { ArePlaces workers.now rows.now places }
+    ensures { result ≡ broken_begin (request_of places.req.0 rows.now) (worker_for (request_of places.req.0 rows.now) workers.now) running.now due.now seat.0 places.req.0 }
+{
+    let row = request_at(rows, places);
+    let worker = worker_at(workers, rows, places);
+    begin_refused(row, worker, running, due, seat, places.req)
+}
+
 /// Why a turn may not begin, if it may not.
-pub fn begin_refused<I>(
+fn begin_refused<I>(
     row: Option<&RequestState>,
     worker: Option<&WorkerState<I>>,
     running: &[Run],
@@ -237,8 +256,26 @@ fn is_number(found: Option<Req>, req: Req) -> bool
     }
 }
 
+/// Why the seat's turn of the request may not end with this `Out`, if it may not.
+pub fn turn_refused_at<I>(
+    alloc: Global,
+    workers: &[WorkerState<I>],
+    rows: &[RequestState],
+    running: &[Run],
+    places: Places,
+    seat: Seat,
+    out: &Out,
+) -> Result<Option<Refused>, NoMemory>
+    requires { ArePlaces workers.now rows.now places }
+    ensures { IfOk result (λ r. r ≡ broken_turn (request_of places.req.0 rows.now) (worker_for (request_of places.req.0 rows.now) workers.now) running.now seat.0 places.req.0 out.now) }
+{
+    let row = request_at(rows, places);
+    let worker = worker_at(workers, rows, places);
+    turn_refused(alloc, row, worker, running, seat, places.req, out)
+}
+
 /// Why a turn may not end with this `Out`, if it may not.
-pub fn turn_refused<I>(
+fn turn_refused<I>(
     alloc: Global,
     row: Option<&RequestState>,
     worker: Option<&WorkerState<I>>,

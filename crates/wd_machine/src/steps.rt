@@ -36,6 +36,16 @@ pub fn new_request(
     }
 }
 
+/// One more request is there.
+pub fn add_request(rows: &mut Vec<RequestState>, row: RequestState) -> Result<(), NoMemory>
+    ensures { OnOk result (rows.new.items ≡ rows.old.items ++ row ∷ []) }
+{
+    if rows.push(row).is_err() {
+        return Err(NoMemory);
+    }
+    Ok(())
+}
+
 /// One more waits for the Worker, behind the others.
 pub fn add_waiter<I>(worker: &mut WorkerState<I>, waiter: Waiter) -> Result<(), NoMemory>
     ensures { OnOk result (worker.new ≡ waits_too waiter worker.old) }
