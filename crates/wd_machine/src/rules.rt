@@ -1,11 +1,11 @@
 ghost use Rattle.std.specs.Prelude.{◌≡◌, IfOk, length};
 ghost use Rattle.std.specs.Option.{option_copied};
 ghost use Rattle.wd_machine.specs.declared.refusal.Kept.TheVariants.{Number, Name, Field, Nothing};
-ghost use Rattle.wd_graph.specs.Names.{is_public};
+ghost use Rattle.wd_graph.specs.Names.{is_public, service_of};
 ghost use Rattle.wd_machine.specs.Ends.{whole_out};
 ghost use Rattle.wd_machine.specs.Found.{ArePlaces, request_of, worker_for, waiters_at, waiting, front, holder_of};
 ghost use Rattle.wd_machine.specs.Rules.{kept_number, is_number, is_open, is_whole, is_live_on, broken_arrive, broken_origin, broken_begin, broken_front, broken_turn, broken_pending, broken_field, broken_drain};
-ghost use Rattle.wd_machine.specs.Same.{first_difference, last_difference, is_same};
+ghost use Rattle.wd_machine.specs.Same.{coded_crosses, first_difference, last_difference, is_same};
 
 use crate::ends::{failure, is_hung};
 use crate::find::{
@@ -16,7 +16,9 @@ use crate::refusal::{Kept, Refused};
 use crate::state::{Due, Pending, RequestState, Run, Waiter, WorkerState};
 use crate::turn::{Out, OutField};
 use std::alloc::Global;
-use wd_base::{Bytes, NoMemory, Origin, Reply, Req, Same, Seat, TryClone, Why};
+use wd_base::{
+    Bytes, Crosses, NoMemory, Origin, Reply, Req, Same, Seat, Service, TryClone, Why,
+};
 use wd_graph::World;
 
 /// A refusal that keeps a number.
@@ -91,6 +93,14 @@ fn is_whole(head: &Head) -> bool
     }
 }
 
+/// The service of this name.
+fn service_named<'a>(world: &'a World, name: &[u8]) -> Option<&'a Service>
+    ensures { option_copied result ≡ service_of name.now world.now.services }
+{
+    let services = world.services().as_slice();
+    services.iter().find(|s| s.name.as_slice() == name)
+}
+
 /// Why the arrival of a request is not allowed, if it is not.
 pub fn arrive_refused(
     alloc: Global,
@@ -107,7 +117,7 @@ pub fn arrive_refused(
     if req.0 == 0 || request_named(rows, req).is_some() {
         return Ok(number_refused(3, req.0));
     }
-    if world.number(service.as_slice()).is_none() {
+    if service_named(world, service.as_slice()).is_none() {
         return name_refused(alloc, 4, service);
     }
     origin_refused(alloc, world, head, service, origin, allow)
@@ -349,8 +359,14 @@ fn field_refused(field: Option<OutField>) -> Option<Refused>
     }
 }
 
+/// The two lists of kept jobs are equal.
+fn same_crosses(a: &Crosses, b: &Crosses) -> bool
+    ensures { result ≡ is_same coded_crosses a.now b.now }
+{
+    a.same(b)
+}
+
 /// The two values are equal.
-#[tactic(auto, using(crate::proofs::SameLemmas::is_same_exact))]
 fn is_same<T: Same>(a: &T, b: &T) -> bool
     ensures { result ≡ is_same T.row.coded a.now b.now }
 {
@@ -385,7 +401,7 @@ fn first_difference(want: &Out, reply: &Option<Reply>, got: &Out) -> Option<OutF
     if want.waits != got.waits {
         return Some(OutField::Waits);
     }
-    if !is_same(&want.cross, &got.cross) {
+    if !same_crosses(&want.cross, &got.cross) {
         return Some(OutField::Cross);
     }
     if !is_same(&want.released, &got.released) {
