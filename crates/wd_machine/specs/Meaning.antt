@@ -141,8 +141,20 @@ unlinked o = record o { link = None }
 -- an `Out` of a turn that did nothing
 abbrev pub nothing_done : Out
 nothing_done = record {
-  made = []; changed = []; freed = []; uses = []; stray = []; ops = []; reply = None; waits = 0;
-  cross = []; released = []; condemned = false; heavy = false; logs = []; steps = 0;
+  made = [];
+  changed = [];
+  freed = [];
+  uses = [];
+  stray = [];
+  ops = [];
+  reply = None;
+  waits = 0;
+  cross = [];
+  released = [];
+  condemned = false;
+  heavy = false;
+  logs = [];
+  steps = 0;
 }
 
 -- the turn of the meaning was made; where memory was wanting, the objects have their links still

@@ -32,9 +32,20 @@ waits_too waiter w = record w { waiters = w.waiters ++ waiter ∷ [] }
 -- a request that has arrived
 abbrev pub new_request : Seat → Req → List ℕ → Origin → ℕ → RequestState
 new_request seat req service origin allow = record {
-  req = req; seat = seat; service = service; origin = origin; left = allow; generation = None;
-  flights = []; live = []; objects = []; pending = None;
-  replied = false; waits = 0; detached = false; ended = false;
+  req = req;
+  seat = seat;
+  service = service;
+  origin = origin;
+  left = allow;
+  generation = None;
+  flights = [];
+  live = [];
+  objects = [];
+  pending = None;
+  replied = false;
+  waits = 0;
+  detached = false;
+  ended = false;
 }
 
 -- Arrive: the request is there, and at a Worker it waits for its start
@@ -59,7 +70,9 @@ taken_by req isolate rest w = record w { isolate = isolate; holder = Some req; w
 -- the request whose turn was made, and runs
 abbrev pub runs_turn : {I : Type 0} → ℕ → TurnGives I → RequestState → RequestState
 runs_turn generation gives r = record r {
-  generation = Some generation; objects = []; pending = Some (record { objects = gives.objects; out = gives.out });
+  generation = Some generation;
+  objects = [];
+  pending = Some (record { objects = gives.objects; out = gives.out });
 }
 
 -- the front waiter's turn was made, where one waits

@@ -64,12 +64,7 @@ pub fn is_hung(row: &RequestState, waiting: bool, out: &Out) -> bool
 }
 
 /// The `Out` of the turn's entry, with the reply that a hung request gets.
-fn whole_out(
-    alloc: Global,
-    row: &RequestState,
-    waiting: bool,
-    out: Out,
-) -> Result<Out, NoMemory>
+fn whole_out(alloc: Global, row: &RequestState, waiting: bool, out: Out) -> Result<Out, NoMemory>
     ensures { IfOk result (λ whole. whole ≡ whole_out row.now waiting out) }
 {
     if !is_hung(row, waiting, &out) {
@@ -174,7 +169,11 @@ pub fn end_turn(
     let gone = freed_by(alloc, freed, live.as_slice(), ended)?;
     let objects = keep_objects(objects, freed);
     let flights = mem::replace(&mut row.flights, Seq::new(alloc));
-    row.flights = unless_ended(alloc, ended, with_started(alloc, flights, out.ops.as_slice())?);
+    row.flights = unless_ended(
+        alloc,
+        ended,
+        with_started(alloc, flights, out.ops.as_slice())?,
+    );
     row.left = left_after(row.left, out.ops.as_slice());
     row.live = unless_ended(alloc, ended, live);
     row.objects = unless_ended(alloc, ended, objects);

@@ -17,7 +17,9 @@ use crate::rules::{
     turn_refused_at,
 };
 use crate::state::{Due, RequestState, Run, Waiter, WorkerState};
-use crate::steps::{add_request, add_waiter, give_back, new_request, push_named, run_front, start_run, stop_run};
+use crate::steps::{
+    add_request, add_waiter, give_back, new_request, push_named, run_front, start_run, stop_run,
+};
 use crate::turn::Out;
 use std::alloc::Global;
 use std::marker::Model;
@@ -154,7 +156,15 @@ impl<I> Machine<I> {
         let alloc = *self.requests.allocator();
         let workers = self.workers.as_slice();
         let rows = self.requests.as_slice();
-        turn_refused_at(alloc, workers, rows, self.running.as_slice(), places, seat, out)
+        turn_refused_at(
+            alloc,
+            workers,
+            rows,
+            self.running.as_slice(),
+            places,
+            seat,
+            out,
+        )
     }
 
     /// A request arrives; `worker` is the place of the Worker of the service's name, if it is one.

@@ -8,17 +8,13 @@ ghost use Rattle.wd_machine.specs.Rules.{kept_number, is_number, is_open, is_who
 ghost use Rattle.wd_machine.specs.Same.{coded_crosses, first_difference, last_difference, is_same};
 
 use crate::ends::{failure, is_hung};
-use crate::find::{
-    Places, due_count, request_at, request_named, run_on, waits_in, worker_at,
-};
+use crate::find::{Places, due_count, request_at, request_named, run_on, waits_in, worker_at};
 use crate::journal::Head;
 use crate::refusal::{Kept, Refused};
 use crate::state::{Due, Pending, RequestState, Run, Waiter, WorkerState};
 use crate::turn::{Out, OutField};
 use std::alloc::Global;
-use wd_base::{
-    Bytes, Crosses, NoMemory, Origin, Reply, Req, Same, Seat, Service, TryClone, Why,
-};
+use wd_base::{Bytes, Crosses, NoMemory, Origin, Reply, Req, Same, Seat, Service, TryClone, Why};
 use wd_graph::World;
 
 /// A refusal that keeps a number.

@@ -21,7 +21,7 @@ pub struct Sample {
 
 impl Isolate for Sample {
     ghost use Rattle.wd_sample.specs.Turns.{sample_means};
-    ghost use Rattle.wd_sample.proofs.Laws.{sample_lawful};
+    ghost use Rattle.wd_sample.specs.Laws.{sample_lawful};
 
     ghost means = { sample_means };
 
@@ -148,7 +148,7 @@ fn add_objects(alloc: Global, wake: &Wake, objects: &mut Objects) -> Result<(), 
 }
 
 /// Adds the objects of a start: the request and its context.
-#[tactic(auto, using(crate::proofs::Laws::links_push_one))]
+#[tactic(auto, using(crate::specs::Laws::links_push_one))]
 fn add_start(alloc: Global, request: &ReqData, objects: &mut Objects) -> Result<(), NoMemory>
     ensures ok { OnOk result (objects.new ≡ objects.old ++ new_object 0 (Request request.now) ∷ new_object 1 Ctx ∷ []) }
     ensures err { OnErr result (links_of objects.new ≡ links_of objects.old) }

@@ -1,8 +1,6 @@
 use crate::hello::hello_core;
 use std::alloc::Global;
-use wd_base::{
-    LinkNo, NoMemory, Obj, Objs, Origin, Reply, Req, ReqData, Seat, Seq, Why,
-};
+use wd_base::{LinkNo, NoMemory, Obj, Objs, Origin, Reply, Req, ReqData, Seat, Seq, Why};
 use wd_machine::{ApplyEnd, Entry, Kept, Out, OutField};
 
 fn arrive(
@@ -70,8 +68,8 @@ fn begin(seat: u32, req: u64) -> Entry {
 }
 
 /// The rule that was broken with the number that was kept; 0 stands for an entry that was taken.
-fn refusal(result: Result<(), ApplyEnd>) -> (u8, u64) {
-    match result {
+fn refusal(answer: Result<(), ApplyEnd>) -> (u8, u64) {
+    match answer {
         Ok(()) => (0, 0),
         Err(ApplyEnd::NoMemory) => (255, 0),
         Err(ApplyEnd::Refused(refused)) => (refused.rule, number(&refused.kept)),

@@ -1,8 +1,8 @@
 -- A sample keeps the laws of isolates.
-use Rattle.std.specs.Prelude.{◌<◌, length, ◌≡◌, ℕ, nat_lt, ◌==◌, ◌+◌, ◌≤◌, Bool, true, false, ◌&&◌, ◌||◌, if◌then◌else◌, List, [], ◌∷◌, ◌++◌, map, Option, Some, None, refl}
+use Rattle.std.specs.Prelude.{unwrap_or, ◌<◌, length, ◌≡◌, ℕ, nat_lt, ◌==◌, ◌+◌, ◌≤◌, Bool, true, false, ◌&&◌, ◌||◌, if◌then◌else◌, List, [], ◌∷◌, ◌++◌, map, Option, Some, None, refl}
 use Rattle.std.proofs.Common.{sym, ap, ◌∙◌, subst, arith}
-use Rattle.std.proofs.lemmas.Bool.{false≢true}
-use Rattle.std.proofs.lemmas.Bool.Decides.{nat_tests}
+use Rattle.std.proofs.lemmas.Bool.{false≢true, eq-eqb}
+use Rattle.std.proofs.Math.Dec.{lit≤}
 use Rattle.std.specs.List.{list_any, list_all}
 use Rattle.wd_base.specs.declared.objects.IoObject.{IoObject}
 use Rattle.wd_base.specs.declared.objects.ObjKind.{ObjKind}
@@ -21,7 +21,7 @@ no_zero : (b : Bool) → 0 ≡ (if b then 0 else 0) + 0
 no_zero true = refl
 no_zero false = refl
 
-zero_either : (b : Bool) → 0 ≡ (if b then 0 else 0)
+zero_either : (b : Bool) → ◌≡◌ {A = ℕ} 0 (if b then 0 else 0)
 zero_either true = refl
 zero_either false = refl
 
@@ -42,7 +42,7 @@ or_true false = refl
 -- a number in the second list is in both
 has_right : (xs ys : List ℕ) (n : ℕ) → has_number ys n ≡ true → has_number (xs ++ ys) n ≡ true
 has_right [] ys n e = e
-has_right (x ∷ xs) ys n e = rw (has_right xs ys n e) (or_true (x == n))
+has_right (x ∷ xs) ys n e = ap (λ b. (x == n) || b) (has_right xs ys n e) ∙ or_true (x == n)
 
 links_push : (os : List IoObject) (w : Wake) → links_of (os ++ new_objects w) ≡ links_of os
 links_push [] (Start request) = refl
@@ -71,7 +71,7 @@ no_ops (Cross job) = refl
 no_ops Dead = refl
 
 rises : (w : Wake) → Rises (numbers (wake_out w).freed)
-rises (Start request) = (omega arith, tt)
+rises (Start request) = (lit≤ tt, tt)
 rises (Done op result) = tt
 rises (Cross job) = tt
 rises Dead = tt
@@ -99,7 +99,7 @@ no_held true req obj e = false≢true e
 no_held false req obj e = false≢true e
 
 same_number : (n : ℕ) → (n == n) ≡ true
-same_number n = grind (arith, nat_tests)
+same_number n = eq-eqb n n refl
 
 none_used : (w : Wake) (obj : ℕ) → has_obj (wake_out w).uses obj ≡ true → ⊥
 none_used (Start request) obj e = false≢true e
@@ -128,7 +128,7 @@ not_condemned Dead = refl
 -- a number that the wake hands out was held, of the turn's own request
 handed : (b c : Bool) (n : ℕ) → c ≡ true → (b || ((n == n) && c)) ≡ true
 handed true c n e = refl
-handed false c n e = rw (same_number n) e
+handed false c n e = ap (λ b. b && c) (same_number n) ∙ e
 
 live_lawful : (s : Sample) (t : TurnIn) → IsTurn sample_means s t (live_turn s t)
 live_lawful s t = record {
@@ -156,8 +156,14 @@ live_lawful s t = record {
 
 dead_lawful : (s : Sample) (t : TurnIn) → IsDeadTurn sample_means s t (dead_turn s t)
 dead_lawful s t = record {
-  out = refl; objects = refl; held = refl; started = λ req. refl;
-  generation = refl; condemned = refl; worker = refl; workers = refl;
+  out = refl;
+  objects = refl;
+  held = refl;
+  started = λ req. refl;
+  generation = refl;
+  condemned = refl;
+  worker = refl;
+  workers = refl;
 }
 
 and_false : (b : Bool) → (b && false) ≡ false
@@ -182,7 +188,7 @@ unread s t false = λ i. record { isolate = record s { generation = t.generation
 
 pub sample_lawful : IsLawful sample_means
 sample_lawful = record {
-  first = λ def names s e. let same : record { worker = def; workers = names; generation = 0 } ≡ s = cc in subst (IsFirst sample_means def names) same (record { worker = refl; workers = refl; generation = refl; condemned = refl; held = refl; started = λ req. refl });
+  first = λ def names s e. let same : record { worker = def; workers = names; generation = 0 } ≡ s = ap (λ o. unwrap_or o s) e in subst (IsFirst sample_means def names) same (record { worker = refl; workers = refl; generation = refl; condemned = refl; held = refl; started = λ req. refl });
   turns = λ s t alive. subst (λ b. IsTurn sample_means s t (if b then dead_turn s t else live_turn s t)) (sym (sym (over_exact s t) ∙ alive)) (live_lawful s t);
   dead = λ s t over. subst (λ b. IsDeadTurn sample_means s t (if b then dead_turn s t else live_turn s t)) (sym (sym (over_exact s t) ∙ over)) (dead_lawful s t);
   links = λ s t. links_kept s t (is_over s t);
