@@ -7,4 +7,4 @@ pub mod StreamSteps
 pub mod FormUnique
 pub mod ConfigSteps
 pub mod EmbedSteps
-pub mod ConstantLaws
+pub mod WorldSteps

@@ -1,5 +1,5 @@
 -- The configurations of the one form that is read.
-use Rattle.std.specs.Prelude.{◌≡◌, ℕ, ◌<◌, ◌^◌, ◌==◌, Bool, true, false, ◌&&◌, List, [], ◌∷◌, ◌++◌, Option, Some, None, codes, if◌then◌else◌}
+use Rattle.std.specs.Prelude.{◌≡◌, ℕ, ◌<◌, ◌-◌, ◌^◌, ◌==◌, Bool, true, false, ◌&&◌, List, [], ◌∷◌, ◌++◌, length, Option, Some, None, codes, if◌then◌else◌}
 use Rattle.std.specs.Char.{is_ascii_digit}
 use Rattle.std.specs.Fmt.{decimal}
 use Rattle.wd_top.specs.declared.config.ConfigText.{ConfigText}
@@ -14,6 +14,10 @@ line_end = 10 ∷ []
 abbrev pub mark : List ℕ
 mark = 34 ∷ []
 
+-- from the path's end to the date
+abbrev pub date_label : List ℕ
+date_label = mark ++ codes ") ]," ++ line_end ++ codes "  compatibilityDate = " ++ mark
+
 -- a configuration up to each text that may differ, and what may stand there
 abbrev pub config_form : List Gap
 config_form =
@@ -23,7 +27,7 @@ config_form =
     ∷ record { text = mark ++ codes ", http = (), service = " ++ mark; hole = Plain }
     ∷ record { text = mark ++ codes ") ]," ++ line_end ++ codes ");" ++ line_end ++ codes "const hello :Workerd.Worker = (" ++ line_end ++ codes "  modules = [ (name = " ++ mark; hole = Plain }
     ∷ record { text = mark ++ codes ", esModule = embed " ++ mark; hole = Plain }
-    ∷ record { text = mark ++ codes ") ]," ++ line_end ++ codes "  compatibilityDate = " ++ mark; hole = Plain }
+    ∷ record { text = date_label; hole = Plain }
     ∷ []
 
 -- what ends a configuration
@@ -70,3 +74,7 @@ pub record IsConfig (bytes : List ℕ) (t : ConfigText) : Type 0 where
 abbrev pub ConfigOf : List ℕ → Option ConfigText → Type 0
 ConfigOf bytes (Some t) = IsConfig bytes t
 ConfigOf bytes None = (t : ConfigText) → IsConfig bytes t → ⊥
+
+-- the place of the path's text in the bytes of a configuration: they end with that text, the date and the end
+abbrev pub path_place : List ℕ → ConfigText → ℕ
+path_place bytes t = length bytes - length (mark ++ t.path ++ date_label ++ t.date ++ config_end)

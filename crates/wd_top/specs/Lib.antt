@@ -9,3 +9,7 @@ pub mod Text
 pub mod Config
 pub mod Embed
 pub mod Constant
+pub mod ConstantLaws
+pub mod Outcome
+pub mod Plan
+pub mod Prepare

@@ -1,5 +1,5 @@
 ghost use Rattle.std.specs.Prelude.{◌≡◌, IfOk};
-ghost use Rattle.wd_top.specs.Config.{ConfigOf, PortOf, TextsOf, is_date, has_shape, fits};
+ghost use Rattle.wd_top.specs.Config.{ConfigOf, PortOf, TextsOf, is_date, has_shape, fits, path_place};
 
 use crate::form::{Hole, Part};
 use crate::holes::read_holes;
@@ -161,4 +161,17 @@ fn fits(expected: u8, byte: u8) -> bool
     } else {
         byte == expected
     }
+}
+
+/// The place in bytes, of a configuration, at which the path's text begins with its quotation mark.
+pub fn path_place(bytes: &[u8], text: &ConfigText) -> usize
+    ensures { result ≡ path_place bytes.now text.now }
+{
+    bytes
+        .len()
+        .saturating_sub(1)
+        .saturating_sub(text.path.len())
+        .saturating_sub(PARTS[6].text.len())
+        .saturating_sub(text.date.len())
+        .saturating_sub(END.len())
 }

@@ -24,7 +24,7 @@ pub struct Constant {
 
 impl Isolate for Constant {
     ghost use Rattle.wd_top.specs.Constant.{constant_means};
-    ghost use Rattle.wd_top.proofs.ConstantLaws.{constant_lawful};
+    ghost use Rattle.wd_top.specs.ConstantLaws.{constant_lawful};
 
     ghost means = { constant_means };
 
@@ -155,7 +155,7 @@ fn add_objects(alloc: Global, wake: &Wake, objects: &mut Objects) -> Result<(), 
 }
 
 /// Adds the objects of a start: the request and its context.
-#[tactic(auto, using(crate::proofs::ConstantLaws::links_push_one))]
+#[tactic(auto, using(crate::specs::ConstantLaws::links_push_one))]
 fn add_start(alloc: Global, request: &ReqData, objects: &mut Objects) -> Result<(), NoMemory>
     ensures ok { OnOk result (objects.new ≡ objects.old ++ new_object 0 (Request request.now) ∷ new_object 1 Ctx ∷ []) }
     ensures err { OnErr result (links_of objects.new ≡ links_of objects.old) }

@@ -10,4 +10,6 @@ mod form;
 mod holes;
 mod http_in;
 mod http_text;
+mod outcome;
+mod prepare;
 mod script;

@@ -24,7 +24,7 @@ no_zero : (b : Bool) → 0 ≡ (if b then 0 else 0) + 0
 no_zero true = refl
 no_zero false = refl
 
-zero_either : (b : Bool) → 0 ≡ (if b then 0 else 0)
+zero_either : (b : Bool) → ◌≡◌ {A = ℕ} 0 (if b then 0 else 0)
 zero_either true = refl
 zero_either false = refl
 
