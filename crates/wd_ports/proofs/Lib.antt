@@ -1,0 +1,3 @@
+pub mod OneLink
+pub mod Parts
+pub mod Printing
