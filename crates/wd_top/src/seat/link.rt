@@ -1,0 +1,178 @@
+ghost use Rattle.std.specs.Prelude.{◌≡◌, ℕ, ◌<◌, Some, length, take, IsErrOf};
+ghost use Rattle.wd_ports.specs.Links.{Keeps, Stays};
+ghost use Rattle.wd_ports.specs.Send.{Sends};
+ghost use Rattle.wd_top.specs.declared.seat.link.Heard.{Heard as HeardIs};
+ghost use Rattle.wd_top.specs.Session.{service_at, tail_text};
+ghost use Rattle.wd_top.specs.Steps.{Knows, SameButConn, Hears, Replies, Handles, NoneFell, end_of};
+
+use crate::board::{Board, Isolate};
+use crate::http_in::{Conn, Fed};
+use crate::http_text::{bad_text, reply_text};
+use std::alloc::Global;
+use wd_base::{LinkNo, NoMemory, ReqData, SockNo};
+use wd_ports::{Failed, Files, Got, Port, write_all};
+
+/// How many bytes are read at once.
+pub const READ_SIZE: usize = 16384;
+
+/// Whether the seat still tends a link.
+#[derive(Clone, Copy, Debug, PartialEq, Eq)]
+pub enum Stage {
+    Open,
+    Shut,
+    /// Memory ran out in the midst of a step. The whole seat stops then.
+    Stopped,
+}
+
+/// What the seat keeps of a link.
+#[derive(Debug, Drop)]
+pub struct LinkRun {
+    /// The socket at which the link came.
+    pub socket: SockNo,
+    /// The bytes that were read and not yet taken.
+    pub conn: Conn,
+    pub stage: Stage,
+    /// The connection may hold a further request.
+    pub ready: bool,
+}
+
+/// What was heard of a link.
+#[derive(Debug, Drop)]
+pub enum Heard {
+    /// What the bytes that are left begin with.
+    Fed(Fed),
+    /// No byte came.
+    Nothing,
+    /// No further byte will come.
+    End,
+    /// The link is gone.
+    Lost,
+    /// Want of memory.
+    Full,
+}
+
+/// How a step leaves a link.
+#[derive(Clone, Copy, Debug, PartialEq, Eq)]
+pub enum StepEnd {
+    Open,
+    /// The link is to be shut.
+    Over,
+    /// Want of memory.
+    Full,
+}
+
+/// Feeds a piece to the connection.
+fn feed(alloc: Global, run: &mut LinkRun, piece: &[u8]) -> Heard
+    ensures knows { Knows run.old piece.now result run.new }
+    ensures same { SameButConn run.old run.new }
+    ensures there { result ≡ HeardIs.Lost → ⊥ }
+{
+    match run.conn.feed(alloc, piece) {
+        Ok(fed) => Heard::Fed(fed),
+        Err(NoMemory) => Heard::Full,
+    }
+}
+
+/// The next request of the link, or what came instead. Bytes are read only where those that were
+/// read before hold no further request.
+#[tactic(auto, using(crate::proofs::FaultSteps::none_fell_same, crate::proofs::FaultSteps::read_blamed))]
+pub fn hear<P: Port>(port: &mut P, alloc: Global, run: &mut LinkRun, link: LinkNo, buf: &mut [u8; READ_SIZE]) -> Heard
+    requires { P.usable port.old link }
+    ensures hears { Hears link run.old run.new result (P.told port.old) (P.told port.new) }
+    ensures lost { result ≡ HeardIs.Lost → P.gone port.new link }
+    ensures keeps { Keeps (P.usable port.old) (P.side port.old) (P.usable port.new) (P.side port.new) }
+    ensures stays { Stays (P.gone port.old) (P.gone port.new) }
+    ensures faults { NoneFell (P.faults port.old) (P.faults port.new) }
+{
+    if run.ready {
+        return feed(alloc, run, &[]);
+    }
+    match port.read_link(link, buf) {
+        Err(Failed::Fault) => Heard::Lost,
+        Err(Failed::NoMemory) => Heard::Full,
+        Ok(Got::End) => Heard::End,
+        Ok(Got::Later) => Heard::Nothing,
+        Ok(Got::Bytes(count)) => feed(alloc, run, &buf[..count]),
+    }
+}
+
+/// A request's arrival, its turn, and its reply's text on the link.
+#[tactic(auto, using(crate::proofs::FaultSteps::none_fell_same, crate::proofs::FaultSteps::written))]
+fn reply_to<P: Port, I: Isolate>(port: &mut P, alloc: Global, board: &mut Board<I>, link: LinkNo, socket: SockNo, request: ReqData, close: bool) -> Result<(), Failed>
+    requires usable { P.usable port.old link }
+    requires socket { socket.0 < length board.old.0.sockets }
+    ensures replies { Replies link (service_at board.old.0.sockets socket) request close result (P.told port.old) (P.told port.new) board.old.1 board.new.1 }
+    ensures world { board.new.0 ≡ board.old.0 }
+    ensures lost { IsErrOf result Failed.Fault → P.gone port.new link }
+    ensures keeps { Keeps (P.usable port.old) (P.side port.old) (P.usable port.new) (P.side port.new) }
+    ensures stays { Stays (P.gone port.old) (P.gone port.new) }
+    ensures faults { NoneFell (P.faults port.old) (P.faults port.new) }
+{
+    match board.answer(alloc, link, socket, request) {
+        Err(NoMemory) => Err(Failed::NoMemory),
+        Ok(reply) => match reply_text(alloc, &reply, close) {
+            Err(NoMemory) => Err(Failed::NoMemory),
+            Ok(text) => write_all(port, link, text.as_slice()),
+        },
+    }
+}
+
+/// Sends the text of a refusal.
+#[tactic(auto, using(wd_ports::proofs::OneLink::sent_nothing, crate::proofs::FaultSteps::none_fell_same, crate::proofs::FaultSteps::written))]
+fn refuse<P: Port>(port: &mut P, alloc: Global, link: LinkNo, code: u16) -> Result<(), Failed>
+    requires usable { P.usable port.old link }
+    ensures sends { Sends link (tail_text (Some code)) result (P.told port.old) (P.told port.new) }
+    ensures lost { IsErrOf result Failed.Fault → P.gone port.new link }
+    ensures keeps { Keeps (P.usable port.old) (P.side port.old) (P.usable port.new) (P.side port.new) }
+    ensures stays { Stays (P.gone port.old) (P.gone port.new) }
+    ensures faults { NoneFell (P.faults port.old) (P.faults port.new) }
+{
+    match bad_text(alloc, code) {
+        Err(NoMemory) => Err(Failed::NoMemory),
+        Ok(text) => write_all(port, link, text.as_slice()),
+    }
+}
+
+/// How a link is left after a write, behind which it closes or goes on.
+fn end_of(written: Result<(), Failed>, close: bool) -> StepEnd
+    ensures { result ≡ end_of written close }
+{
+    match written {
+        Ok(()) => if close { StepEnd::Over } else { StepEnd::Open },
+        Err(Failed::Fault) => StepEnd::Over,
+        Err(Failed::NoMemory) => StepEnd::Full,
+    }
+}
+
+/// Does what was heard of a link asks for.
+#[tactic(auto, using(crate::proofs::FaultSteps::none_fell_same))]
+pub fn handle<P: Port, I: Isolate>(port: &mut P, alloc: Global, board: &mut Board<I>, run: &mut LinkRun, link: LinkNo, heard: Heard) -> StepEnd
+    requires usable { P.usable port.old link }
+    requires socket { run.old.socket.0 < length board.old.0.sockets }
+    requires lost { heard ≡ HeardIs.Lost → P.gone port.old link }
+    ensures handles { Handles link (service_at board.old.0.sockets run.old.socket) run.old run.new heard result (P.told port.old) (P.told port.new) board.old.1 board.new.1 (P.gone port.new link) }
+    ensures world { board.new.0 ≡ board.old.0 }
+    ensures keeps { Keeps (P.usable port.old) (P.side port.old) (P.usable port.new) (P.side port.new) }
+    ensures stays { Stays (P.gone port.old) (P.gone port.new) }
+    ensures faults { NoneFell (P.faults port.old) (P.faults port.new) }
+{
+    match heard {
+        Heard::Fed(Fed::Later) => {
+            run.ready = false;
+            StepEnd::Open
+        }
+        Heard::Fed(Fed::Request(request, close)) => {
+            run.ready = true;
+            let replied = reply_to(port, alloc, board, link, run.socket, request, close);
+            end_of(replied, close)
+        }
+        Heard::Fed(Fed::Bad(code)) => {
+            let refused = refuse(port, alloc, link, code);
+            end_of(refused, true)
+        }
+        Heard::Nothing => StepEnd::Open,
+        Heard::End => StepEnd::Over,
+        Heard::Lost => StepEnd::Over,
+        Heard::Full => StepEnd::Full,
+    }
+}
