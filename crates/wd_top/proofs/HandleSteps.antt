@@ -2,15 +2,12 @@
 use Rattle.std.proofs.Common.{◌≡◌, ◌≢◌, ℕ, ◌+◌, ◌-◌, ◌<◌, ◌≤◌, List, [], ◌∷◌, ◌++◌, length, take, refl, ap, ap₂, sym, ◌∙◌, subst, arith, Bool, true, false, Option, Some, None, Result, Ok, Err, inl, inr, ◌⊎◌, append-nil, IsErrOf, OnOk}
 use Rattle.std.proofs.lemmas.Bool.{false≢true}
 use Rattle.wd_base.specs.declared.ids.LinkNo.{LinkNo}
-use Rattle.wd_base.specs.declared.ids.NoMemory.{NoMemory as NoMem}
 use Rattle.wd_base.specs.declared.http.ReqData.{ReqData}
-use Rattle.wd_base.specs.declared.http.Reply.{Reply}
 use Rattle.wd_ports.specs.declared.told.LinkState.{LinkState}
 use Rattle.wd_ports.specs.declared.told.Failed.{Failed}
 use Rattle.wd_ports.specs.declared.told.Failed.TheVariants.{Fault, NoMemory}
 use Rattle.wd_ports.specs.Told.{Told, on_link, with_received, with_sent, with_end, received_on, ended_on}
 use Rattle.wd_ports.specs.Send.{Sends}
-use Rattle.wd_ports.proofs.OneLink.{sent_nothing}
 use Rattle.wd_machine.specs.declared.journal.Entry.{Entry}
 use Rattle.wd_top.specs.declared.http_in.Phase.TheVariants as phase
 use Rattle.wd_top.specs.declared.http_in.Fed.TheVariants as fed
@@ -23,7 +20,7 @@ use Rattle.wd_top.specs.Stream.{IsFault, IsUnfinished}
 use Rattle.wd_top.specs.Text.{reply_text}
 use Rattle.wd_top.specs.Talk.{Talk, talk}
 use Rattle.wd_top.specs.Session.{tail_text, Carries, IsWhole}
-use Rattle.wd_top.specs.Steps.{Answers, Reading, Opened, Asks, Known, Knows, SameButConn, Hears, Replies, After, Handles, end_of}
+use Rattle.wd_top.specs.Steps.{Answers, Reading, Opened, Asks, Known, Knows, SameButConn, Hears, Replies, IsLeft, After, Handles, end_of}
 use Rattle.wd_top.proofs.SessionSteps.{same_link, received_link, ended_link, sent_link, reading_more, reading_end, reading_asked, reading_sent, carries_part, carries_all, carries_asked, whole_closed, whole_ended, whole_refused, carries_refused}
 
 pub hears_same : (n : LinkNo) (run : LinkRun) (i : Heard) (t new : Told) → new ≡ t → ((s : List ℕ) (l : LinkState) (k : Talk) → Opened s l k run → Known i s l k run) → Hears n run run i t new
@@ -70,13 +67,13 @@ sent_after s l t' run false text k (Ok x) gone h all lost live ready r = record 
 sent_after s l t' run c text k (Err Fault) gone h all lost live ready r = (carries_part s l t' run.conn.queue c text k h r, λ ng. absurd (ng (lost refl)))
 sent_after s l t' run c text k (Err NoMemory) gone h all lost live ready r = carries_part s l t' run.conn.queue c text k h r
 
-full_end : (w : Result (Unit {0}) Failed) (c : Bool) → IsErrOf w NoMemory → end_of w c ≡ end.Full
-full_end (Ok x) c e = absurd (cc)
-full_end (Err Fault) c e = absurd (cc)
-full_end (Err NoMemory) c e = refl
+-- the link is tended no more
+left_after : (s : List ℕ) (l : LinkState) (t : Talk) (run : LinkRun) (e : StepEnd) (gone : Type 0) → IsLeft e → Carries s l t → After e s l t run gone
+left_after s l t run e gone (inl is) c = subst (λ x. After x s l t run gone) (sym is) c
+left_after s l t run e gone (inr is) c = subst (λ x. After x s l t run gone) (sym is) c
 
-pub handles_request : (n : LinkNo) (s : List ℕ) (run : LinkRun) (i : Heard) (r : ReqData) (c : Bool) (w : Result (Unit {0}) Failed) (t new : Told) (j j' : List Entry) (gone : Type 0) → i ≡ heard.Fed (fed.Request r c) → (IsErrOf w Fault → gone) → Replies n s r c w t new j j' → Handles n s run (record run { ready = true }) i (end_of w c) t new j j' gone
-handles_request n s run i r c w t new j j' gone is lost (inl (p, a, x)) = record {
+pub handles_request : (n : LinkNo) (s : List ℕ) (run : LinkRun) (i : Heard) (r : ReqData) (c : Bool) (e : StepEnd) (t new : Told) (j j' : List Entry) (gone : Type 0) → i ≡ heard.Fed (fed.Request r c) → Replies n s r c e gone t new j j' → Handles n s run (record run { ready = true }) i e t new j j' gone
+handles_request n s run i r c e t new j j' gone is (inl (p, w, a, x, ends, lost)) = record {
     change = with_sent (take x.count (reply_text p c));
     tells = x.tells ∙ sent_link n _ t;
     stands = λ l. (refl, refl);
@@ -84,19 +81,20 @@ handles_request n s run i r c w t new j j' gone is lost (inl (p, a, x)) = record
     others = a.0;
     after = λ l k.
       let h : Asks s l (talk 0 n.0 j) r c run = subst (λ y. Known y s l (talk 0 n.0 j) run) is k in
-      sent_after s l (talk 0 n.0 j') (record run { ready = true }) c (reply_text p c) x.count w gone x.within x.whole lost h.phase refl
-        (reading_asked s l (talk 0 n.0 j) (talk 0 n.0 j') run r c a.1.0 p h a.1.1);
+      subst (λ y. After y s (with_sent (take x.count (reply_text p c)) l) (talk 0 n.0 j') (record run { ready = true }) gone) (sym ends)
+      (sent_after s l (talk 0 n.0 j') (record run { ready = true }) c (reply_text p c) x.count w gone x.within x.whole lost h.phase refl
+        (reading_asked s l (talk 0 n.0 j) (talk 0 n.0 j') run r c a.1.0 p h a.1.1));
   }
-handles_request n s run i r c w t new j j' gone is lost (inr (x, a, e, m)) = record {
+handles_request n s run i r c e t new j j' gone is (inr (others, asked, same, left)) = record {
     change = λ l. l;
-    tells = e ∙ same_link n t;
+    tells = same ∙ same_link n t;
     stands = λ l. (refl, refl);
     same = (refl, refl);
-    others = a.0;
+    others = others;
     after = λ l k.
       let h : Asks s l (talk 0 n.0 j) r c run = subst (λ y. Known y s l (talk 0 n.0 j) run) is k in
-      subst (λ y. After y s l (talk 0 n.0 j') (record run { ready = true }) gone) (sym (full_end w c m))
-      (elim a.1 [
+      left_after s l (talk 0 n.0 j') (record run { ready = true }) e gone left
+      (elim asked [
         | inl q ↦ subst (λ y. Carries s l y) (sym q) (carries_all s _ _ h.rest false h.reading)
         | inr q ↦ carries_asked s l (talk 0 n.0 j) (talk 0 n.0 j') run r c q.0 h q.1
       ]);
@@ -118,7 +116,3 @@ handles_bad n s run i code w t new j gone is lost x = record {
       let h : Known (heard.Fed (fed.Bad code)) s l (talk 0 n.0 j) run = subst (λ y. Known y s l (talk 0 n.0 j) run) is k in
       refused_after s l (talk 0 n.0 j) run h.0 code x.count w gone x.within x.whole lost h.1 h.2;
   }
-
--- memory ran out before the text
-pub replies_nothing : (n : LinkNo) (s : List ℕ) (r : ReqData) (c : Bool) (t : Told) (j j' : List Entry) (reply : Reply) → Answers n s r j j' (Ok reply) → Replies n s r c (Err NoMemory) t t j j'
-replies_nothing n s r c t j j' reply a = inl (reply, a, record { count = 0; within = omega arith; whole = tt; tells = sym (sent_nothing n t) })

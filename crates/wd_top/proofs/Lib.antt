@@ -1,1 +1,9 @@
+pub mod BoardSteps
+pub mod FaultSteps
+pub mod HandleSteps
+pub mod LiveSteps
+pub mod MachineSteps
+pub mod SessionSteps
+pub mod StreamSteps
+pub mod TableSteps
 pub mod TalkSteps

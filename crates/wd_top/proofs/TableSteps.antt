@@ -22,7 +22,7 @@ use Rattle.wd_top.specs.declared.seat.link.Stage.{Stage}
 use Rattle.wd_top.specs.declared.seat.link.Stage.TheVariants.{Open, Shut, Stopped}
 use Rattle.wd_top.specs.Talk.{Talk, talk, no_talk, TakesTurns}
 use Rattle.wd_top.specs.Session.{service_at, link_at, number, IsOutside, Carries, IsWhole, CarriesFrom, WholeFrom, Session, Done}
-use Rattle.wd_top.specs.Steps.{Others, Reading, Opened, Hears, Handles, After, Known, TendedAs, Moves}
+use Rattle.wd_top.specs.Steps.{IsLeft, Others, Reading, Opened, Hears, Handles, After, Known, TendedAs, Moves}
 use Rattle.wd_top.specs.Table.{IsTended, AreTended, Tended, run_at, new_run, blank_run, AreShut, Kept}
 use Rattle.wd_top.proofs.StreamSteps.{unfinished_nothing}
 use Rattle.wd_top.proofs.SessionSteps.{shut_link, carries_all, carries_shut, whole_shut}
@@ -56,17 +56,21 @@ moves_over n sockets run run1 run2 conn i t t1 t2 t3 j j' gone gone' h d0 e stay
       (ap (λ k. k + 1) ((d.stands (h.change l)).0 ∙ (h.stands l).0 ∙ o.0), carries_shut s _ _ a.0, λ ng. whole_shut s _ _ (a.1 (λ g. ng (stays g))));
   }
 
-pub moves_full : (n : LinkNo) (sockets : List Socket) (run run1 run2 : LinkRun) (i : Heard) (t t1 t2 : Told) (j j' : List Entry) (gone : Type 0) → Hears n run run1 i t t1 → Handles n (service_at sockets run1.socket) run1 run2 i end.Full t1 t2 j j' gone → Moves n (service_at sockets run.socket) run (record run2 { stage = Stopped }) t t2 j j' gone
-moves_full n sockets run run1 run2 i t t1 t2 j j' gone h d0 =
+left_carries : (e : StepEnd) (s : List ℕ) (l : LinkState) (t : Talk) (run : LinkRun) (gone : Type 0) → IsLeft e → After e s l t run gone → Carries s l t
+left_carries e s l t run gone (inl is) a = subst (λ x. After x s l t run gone) is a
+left_carries e s l t run gone (inr is) a = subst (λ x. After x s l t run gone) is a
+
+pub moves_left : (n : LinkNo) (sockets : List Socket) (run run1 run2 : LinkRun) (i : Heard) (e : StepEnd) (t t1 t2 : Told) (j j' : List Entry) (gone : Type 0) → IsLeft e → Hears n run run1 i t t1 → Handles n (service_at sockets run1.socket) run1 run2 i e t1 t2 j j' gone → Moves n (service_at sockets run.socket) run (record run2 { stage = Stopped }) t t2 j j' gone
+moves_left n sockets run run1 run2 i e t t1 t2 j j' gone left h d0 =
     let s : List ℕ = service_at sockets run.socket in
-    let d : Handles n s run1 run2 i end.Full t1 t2 j j' gone = subst (λ k. Handles n (service_at sockets k) run1 run2 i end.Full t1 t2 j j' gone) h.same.1 d0 in
+    let d : Handles n s run1 run2 i e t1 t2 j j' gone = subst (λ k. Handles n (service_at sockets k) run1 run2 i e t1 t2 j j' gone) h.same.1 d0 in
     record {
     change = λ l. d.change (h.change l);
     tells = d.tells ∙ ap (on_link n d.change) h.tells ∙ twice n h.change d.change t;
     origin = λ l. (d.stands (h.change l)).1 ∙ (h.stands l).1;
     socket = d.same.1 ∙ h.same.1;
     others = d.others;
-    here = λ l o. d.after (h.change l) (h.known s l (talk 0 n.0 j) o.1);
+    here = λ l o. left_carries e s (d.change (h.change l)) (talk 0 n.0 j') run2 gone left (d.after (h.change l) (h.known s l (talk 0 n.0 j) o.1));
   }
 
 -- a link that was lost stays lost

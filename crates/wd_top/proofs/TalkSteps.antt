@@ -141,11 +141,11 @@ nat_self n = eq-eqb n n refl
 pub nat_other : (n m : ℕ) → n ≢ m → nat_eq n m ≡ false
 nat_other n m ne = grind (arith, nat_tests)
 
-reply_none : (n q : ℕ) (reply : Reply) (rows : List Row) → Below n rows → n < q → with_reply q reply rows ≡ rows
+pub reply_none : (n q : ℕ) (reply : Reply) (rows : List Row) → Below n rows → n < q → with_reply q reply rows ≡ rows
 reply_none n q reply [] b h = refl
 reply_none n q reply (r ∷ rs) (x, b) h = rw (nat_other r.req q (omega arith)) (ap (λ t. r ∷ t) (reply_none n q reply rs b h))
 
-reply_last : (n : ℕ) (q : Req) (service : List ℕ) (request : ReqData) (reply : Reply) (rows : List Row) → Below n rows → n < q.0 → with_reply q.0 reply (rows ++ asked_row q service request ∷ []) ≡ rows ++ answered_row q service request reply ∷ []
+pub reply_last : (n : ℕ) (q : Req) (service : List ℕ) (request : ReqData) (reply : Reply) (rows : List Row) → Below n rows → n < q.0 → with_reply q.0 reply (rows ++ asked_row q service request ∷ []) ≡ rows ++ answered_row q service request reply ∷ []
 reply_last n q service request reply [] b h = rw (nat_self q.0) refl
 reply_last n q service request reply (x ∷ xs) (y, b) h = rw (nat_other x.req q.0 (omega arith)) (ap (λ t. x ∷ t) (reply_last n q service request reply xs b h))
 

@@ -34,9 +34,9 @@ Adds link service request reply old new = (q : ℕ) × (talk 0 link.0 new ≡ ad
 abbrev pub Others : LinkNo → List Entry → List Entry → Type 0
 Others link old new = (n : ℕ) → n ≢ link.0 → talk 0 n new ≡ talk 0 n old
 
--- a request went from its arrival to its reply; after want of memory it may have arrived, or not
-abbrev pub Answers : LinkNo → List ℕ → ReqData → List Entry → List Entry → Result Reply NoMem → Type 0
-Answers link service request old new (Ok reply) = Others link old new × Adds link service request (Some reply) old new
+-- a request went from its arrival to its reply, where it has one; after want of memory it may have arrived, or not
+abbrev pub Answers : LinkNo → List ℕ → ReqData → List Entry → List Entry → Result (Option Reply) NoMem → Type 0
+Answers link service request old new (Ok reply) = Others link old new × Adds link service request reply old new
 Answers link service request old new (Err e) = Others link old new × ((talk 0 link.0 new ≡ talk 0 link.0 old) ⊎ Adds link service request None old new)
 
 -- no part of the count fell
@@ -99,17 +99,29 @@ pub record Hears (n : LinkNo) (run run' : LinkRun) (heard : Heard) (old new : To
   pub same : SameButConn run run'
   pub known : (service : List ℕ) (link : LinkState) (t : Talk) → Opened service link t run → Known heard service (change link) t run'
 
--- the request was answered, and its text sent from the front; or memory ran out before
-abbrev pub Replies : LinkNo → List ℕ → ReqData → Bool → Result (Unit {0}) Failed → Told → Told → List Entry → List Entry → Type 0
-Replies n service r close result old new j j' =
-    ((reply : Reply) × Answers n service r j j' (Ok reply) × Sends n (reply_text reply close) result old new)
-    ⊎ ((e : NoMem) × Answers n service r j j' (Err e) × (new ≡ old) × IsErrOf result NoMemory)
+-- after a write: an open link goes on but after a reply that closes, and a link that is lost is over
+abbrev pub end_of : Result (Unit {0}) Failed → Bool → StepEnd
+end_of (Ok x) true = end.Over
+end_of (Ok x) false = end.Open
+end_of (Err Fault) close = end.Over
+end_of (Err NoMemory) close = end.Full
+
+-- the link is tended no more: memory ran out, or its request has no reply
+abbrev pub IsLeft : StepEnd → Type 0
+IsLeft e = (e ≡ end.Full) ⊎ (e ≡ end.Waits)
+
+-- the request was answered, and its text sent from the front; or it has no reply, or memory ran out before
+abbrev pub Replies : LinkNo → List ℕ → ReqData → Bool → StepEnd → Type 0 → Told → Told → List Entry → List Entry → Type 0
+Replies n service r close e gone old new j j' =
+    ((reply : Reply) × (result : Result (Unit {0}) Failed) × Answers n service r j j' (Ok (Some reply)) × Sends n (reply_text reply close) result old new × (e ≡ end_of result close) × (IsErrOf result Fault → gone))
+    ⊎ (Others n j j' × ((talk 0 n.0 j' ≡ talk 0 n.0 j) ⊎ Adds n service r None j j') × (new ≡ old) × IsLeft e)
 
 -- what is known of a link after a step
 abbrev pub After : StepEnd → List ℕ → LinkState → Talk → LinkRun → Type 0 → Type 0
 After end.Open service link t run gone = Opened service link t run
 After end.Over service link t run gone = Carries service link t × ((gone → ⊥) → IsWhole service link t)
 After end.Full service link t run gone = Carries service link t
+After end.Waits service link t run gone = Carries service link t
 
 pub record Handles (n : LinkNo) (service : List ℕ) (run run' : LinkRun) (heard : Heard) (e : StepEnd) (old new : Told) (j j' : List Entry) (gone : Type 0) : Type 0 where
   pub change : LinkState → LinkState
@@ -118,13 +130,6 @@ pub record Handles (n : LinkNo) (service : List ℕ) (run run' : LinkRun) (heard
   pub same : SameButConn run run'
   pub others : Others n j j'
   pub after : (link : LinkState) → Known heard service link (talk 0 n.0 j) run → After e service (change link) (talk 0 n.0 j') run' gone
-
--- after a write: an open link goes on but after a reply that closes, and a link that is lost is over
-abbrev pub end_of : Result (Unit {0}) Failed → Bool → StepEnd
-end_of (Ok x) true = end.Over
-end_of (Ok x) false = end.Open
-end_of (Err Fault) close = end.Over
-end_of (Err NoMemory) close = end.Full
 
 -- what the table says of a link holds of it
 abbrev pub TendedAs : Stage → List ℕ → LinkRun → LinkState → Talk → Type 0 → Type 0

@@ -1,11 +1,8 @@
-//! The server's top call.
+//! The server from the command line's words to the bytes on its links: the readers of its texts,
+//! and the session over a port.
 #![tactic(auto)]
 
-ghost use Rattle.std.specs.Prelude.{◌≡◌};
-ghost use Rattle.wd_top.specs.Talk.{Row};
-
-fn nothing(x: u64) -> u64
-    ensures { result ≡ x }
-{
-    x
-}
+mod board;
+mod http_in;
+mod http_text;
+mod seat;

@@ -18,12 +18,13 @@ ghost use Rattle.wd_top.specs.Session.{Session, Done};
 ghost use Rattle.wd_top.specs.Steps.{NoneFell};
 ghost use Rattle.wd_top.specs.Table.{addresses};
 
-use crate::board::{Board, Isolate};
+use crate::board::Board;
 use crate::seat::link::{LinkRun, READ_SIZE};
 use crate::seat::table::{Taken, take_link, tend_all};
 use std::alloc::Global;
 use std::sync::Wait;
 use wd_base::NoMemory;
+use wd_machine::Isolate;
 use wd_ports::{Files, Port};
 
 fn is_empty(live: &Vec<usize>) -> bool

@@ -2,14 +2,16 @@ ghost use Rattle.std.specs.Prelude.{◌≡◌, ℕ, ◌<◌, Some, length, take,
 ghost use Rattle.wd_ports.specs.Links.{Keeps, Stays};
 ghost use Rattle.wd_ports.specs.Send.{Sends};
 ghost use Rattle.wd_top.specs.declared.seat.link.Heard.{Heard as HeardIs};
+ghost use Rattle.wd_top.specs.Text.{reply_text};
 ghost use Rattle.wd_top.specs.Session.{service_at, tail_text};
 ghost use Rattle.wd_top.specs.Steps.{Knows, SameButConn, Hears, Replies, Handles, NoneFell, end_of};
 
-use crate::board::{Board, Isolate};
+use crate::board::Board;
 use crate::http_in::{Conn, Fed};
 use crate::http_text::{bad_text, reply_text};
 use std::alloc::Global;
-use wd_base::{LinkNo, NoMemory, ReqData, SockNo};
+use wd_base::{LinkNo, NoMemory, Reply, ReqData, SockNo};
+use wd_machine::Isolate;
 use wd_ports::{Failed, Files, Got, Port, write_all};
 
 /// How many bytes are read at once.
@@ -20,7 +22,8 @@ pub const READ_SIZE: usize = 16384;
 pub enum Stage {
     Open,
     Shut,
-    /// Memory ran out in the midst of a step. The whole seat stops then.
+    /// Its last request has no reply, or memory ran out in the midst of a step. It is tended no
+    /// more. Nothing ends an operation of a request yet, so that a reply cannot come later.
     Stopped,
 }
 
@@ -57,6 +60,8 @@ pub enum StepEnd {
     Open,
     /// The link is to be shut.
     Over,
+    /// Its request has no reply.
+    Waits,
     /// Want of memory.
     Full,
 }
@@ -96,24 +101,40 @@ pub fn hear<P: Port>(port: &mut P, alloc: Global, run: &mut LinkRun, link: LinkN
     }
 }
 
-/// A request's arrival, its turn, and its reply's text on the link.
-#[tactic(auto, using(crate::proofs::FaultSteps::none_fell_same, crate::proofs::FaultSteps::written))]
-fn reply_to<P: Port, I: Isolate>(port: &mut P, alloc: Global, board: &mut Board<I>, link: LinkNo, socket: SockNo, request: ReqData, close: bool) -> Result<(), Failed>
+/// Sends a reply's text.
+#[tactic(auto, using(wd_ports::proofs::OneLink::sent_nothing, crate::proofs::FaultSteps::none_fell_same, crate::proofs::FaultSteps::written))]
+fn send<P: Port>(port: &mut P, alloc: Global, link: LinkNo, reply: &Reply, close: bool) -> Result<(), Failed>
     requires usable { P.usable port.old link }
-    requires socket { socket.0 < length board.old.0.sockets }
-    ensures replies { Replies link (service_at board.old.0.sockets socket) request close result (P.told port.old) (P.told port.new) board.old.1 board.new.1 }
-    ensures world { board.new.0 ≡ board.old.0 }
+    ensures sends { Sends link (reply_text reply.now close) result (P.told port.old) (P.told port.new) }
     ensures lost { IsErrOf result Failed.Fault → P.gone port.new link }
     ensures keeps { Keeps (P.usable port.old) (P.side port.old) (P.usable port.new) (P.side port.new) }
     ensures stays { Stays (P.gone port.old) (P.gone port.new) }
     ensures faults { NoneFell (P.faults port.old) (P.faults port.new) }
 {
-    match board.answer(alloc, link, socket, request) {
+    match reply_text(alloc, reply, close) {
         Err(NoMemory) => Err(Failed::NoMemory),
-        Ok(reply) => match reply_text(alloc, &reply, close) {
-            Err(NoMemory) => Err(Failed::NoMemory),
-            Ok(text) => write_all(port, link, text.as_slice()),
-        },
+        Ok(text) => write_all(port, link, text.as_slice()),
+    }
+}
+
+/// A request's arrival, its turn, and its reply's text on the link.
+#[tactic(auto, using(crate::proofs::FaultSteps::none_fell_same))]
+fn reply_to<P: Port, I: Isolate>(port: &mut P, alloc: Global, board: &mut Board<I>, link: LinkNo, socket: SockNo, request: ReqData, close: bool) -> StepEnd
+    requires usable { P.usable port.old link }
+    requires socket { socket.0 < length board.old.0.sockets }
+    ensures replies { Replies link (service_at board.old.0.sockets socket) request close result (P.gone port.new link) (P.told port.old) (P.told port.new) board.old.1 board.new.1 }
+    ensures world { board.new.0 ≡ board.old.0 }
+    ensures keeps { Keeps (P.usable port.old) (P.side port.old) (P.usable port.new) (P.side port.new) }
+    ensures stays { Stays (P.gone port.old) (P.gone port.new) }
+    ensures faults { NoneFell (P.faults port.old) (P.faults port.new) }
+{
+    match board.answer(alloc, link, socket, request) {
+        Err(NoMemory) => StepEnd::Full,
+        Ok(None) => StepEnd::Waits,
+        Ok(Some(reply)) => {
+            let sent = send(port, alloc, link, &reply, close);
+            end_of(sent, close)
+        }
     }
 }
 
@@ -163,8 +184,7 @@ pub fn handle<P: Port, I: Isolate>(port: &mut P, alloc: Global, board: &mut Boar
         }
         Heard::Fed(Fed::Request(request, close)) => {
             run.ready = true;
-            let replied = reply_to(port, alloc, board, link, run.socket, request, close);
-            end_of(replied, close)
+            reply_to(port, alloc, board, link, run.socket, request, close)
         }
         Heard::Fed(Fed::Bad(code)) => {
             let refused = refuse(port, alloc, link, code);

@@ -5,11 +5,12 @@ ghost use Rattle.wd_top.specs.Session.{service_at, Session};
 ghost use Rattle.wd_top.specs.Steps.{Moves, NoneFell};
 ghost use Rattle.wd_top.specs.Table.{Tended, Kept, AreWithin, Covers, keep, is_shut, run_at, new_run};
 
-use crate::board::{Board, Isolate};
+use crate::board::Board;
 use crate::http_in::Conn;
 use crate::seat::link::{Heard, LinkRun, READ_SIZE, Stage, StepEnd, handle, hear};
 use std::alloc::Global;
 use wd_base::{LinkNo, NoMemory, SockNo};
+use wd_machine::Isolate;
 use wd_ports::{Accepted, Files, Port};
 
 /// Something came of the link.
@@ -41,6 +42,10 @@ fn tend_run<P: Port, I: Isolate>(port: &mut P, alloc: Global, board: &mut Board<
             port.shut(link);
             run.stage = Stage::Shut;
             run.conn = Conn::new(alloc);
+            Ok(news)
+        }
+        StepEnd::Waits => {
+            run.stage = Stage::Stopped;
             Ok(news)
         }
         StepEnd::Full => {

@@ -7,7 +7,7 @@ pub returns-in-Fed-Later-clause-handles : goal.returns-in-Fed-Later-clause-handl
 returns-in-Fed-Later-clause-handles g c = handles_later _ _ c.args.run.now _ _ _ _ (c.in-Fed-Later.is ∙ ap heard.Fed c.in-Fed-Later.field-0-is)
 
 pub returns-in-Fed-Request-clause-handles : goal.returns-in-Fed-Request-clause-handles
-returns-in-Fed-Request-clause-handles g c = rw c.end_of.ensures (handles_request _ _ c.args.run.now _ c.in-Fed-Request.request c.in-Fed-Request.close c.reply_to-replied.result _ _ _ _ _ (c.in-Fed-Request.is ∙ ap heard.Fed c.in-Fed-Request.field-0-is) c.reply_to-replied.ensures.lost c.reply_to-replied.ensures.replies)
+returns-in-Fed-Request-clause-handles g c = handles_request _ _ c.args.run.now _ c.in-Fed-Request.request c.in-Fed-Request.close _ _ _ _ _ _ (c.in-Fed-Request.is ∙ ap heard.Fed c.in-Fed-Request.field-0-is) c.reply_to.ensures.replies
 
 pub returns-in-Fed-Bad-clause-handles : goal.returns-in-Fed-Bad-clause-handles
 returns-in-Fed-Bad-clause-handles g c = rw c.end_of-in-Fed-Bad.ensures (handles_bad _ _ c.args.run.now _ c.in-Fed-Bad.code c.refuse-refused.result _ _ _ _ (c.in-Fed-Bad.is ∙ ap heard.Fed c.in-Fed-Bad.field-0-is) c.refuse-refused.ensures.lost c.refuse-refused.ensures.sends)
