@@ -1,9 +1,15 @@
+pub mod FormSteps
+pub mod HeadSteps
+pub mod HeadUnique
+pub mod StreamSteps
+pub mod ConfigSteps
+pub mod ScriptSteps
+pub mod PathSteps
 pub mod BoardSteps
 pub mod FaultSteps
 pub mod HandleSteps
 pub mod LiveSteps
 pub mod MachineSteps
 pub mod SessionSteps
-pub mod StreamSteps
 pub mod TableSteps
 pub mod TalkSteps

@@ -1,8 +1,13 @@
+pub mod Form
+pub mod Command
+pub mod Config
+pub mod Head
+pub mod Stream
+pub mod Conn
+pub mod Text
+pub mod Script
 pub mod Board
-pub mod Seen
 pub mod Session
 pub mod Steps
-pub mod Stream
 pub mod Table
 pub mod Talk
-pub mod Text

@@ -3,6 +3,10 @@
 #![tactic(auto)]
 
 mod board;
+mod command;
+mod config;
+mod form;
 mod http_in;
 mod http_text;
+mod script;
 mod seat;
