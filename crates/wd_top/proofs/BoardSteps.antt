@@ -1,11 +1,12 @@
 -- The journal with a request's entries behind it.
-use Rattle.std.proofs.Common.{◌≡◌, ◌≢◌, ℕ, zero, suc, ◌+◌, ◌-◌, ◌<◌, ◌≤◌, List, [], ◌∷◌, ◌++◌, length, map, flat_map, get_or, refl, ap, ap₂, sym, ◌∙◌, subst, arith, Bool, true, false, not, ◌&&◌, if◌then◌else◌, Option, Some, None, inl, inr, ◌⊎◌, Result, Ok, Err, nat_eq, cond}
+use Rattle.std.proofs.Common.{OnOk, OnErr, IfOk, ◌≡◌, ◌≢◌, ℕ, zero, suc, ◌+◌, ◌-◌, ◌<◌, ◌≤◌, List, [], ◌∷◌, ◌++◌, length, map, flat_map, get_or, refl, ap, ap₂, sym, ◌∙◌, subst, arith, Bool, true, false, not, ◌&&◌, if◌then◌else◌, Option, Some, None, inl, inr, ◌⊎◌, Result, Ok, Err, nat_eq, cond}
 use Rattle.std.proofs.lemmas.Bool.{false≢true}
 use Rattle.std.specs.Prelude.{is_some, is_none}
 use Rattle.std.specs.List.{find, list_any, position_from}
 use Rattle.wd_base.specs.declared.config.Config.{Config}
 use Rattle.wd_base.specs.declared.config.Service.{Service}
 use Rattle.wd_base.specs.declared.config.Socket.{Socket}
+use Rattle.wd_base.specs.declared.config.WorkerDef.{WorkerDef}
 use Rattle.wd_base.specs.declared.ids.LinkNo.{LinkNo}
 use Rattle.wd_base.specs.declared.ids.NoMemory.{NoMemory}
 use Rattle.wd_base.specs.declared.ids.Req.{Req}
@@ -14,25 +15,25 @@ use Rattle.wd_base.specs.declared.http.Reply.{Reply}
 use Rattle.wd_base.specs.declared.http.ReqData.{ReqData}
 use Rattle.wd_base.specs.declared.objects.Origin.TheVariants.{Outside}
 use Rattle.wd_graph.specs.Links.{references, is_unknown, first_unknown, named_at, named_by}
-use Rattle.wd_graph.specs.Names.{service_of, has_name, is_named, same_name, is_public}
+use Rattle.wd_graph.specs.Names.{worker_in, service_of, has_name, is_named, same_name, is_public}
 use Rattle.wd_machine.specs.declared.journal.Entry.{Entry}
 use Rattle.wd_machine.specs.declared.journal.Entry.TheVariants.{Arrive, Begin, Turn}
 use Rattle.wd_machine.specs.declared.journal.Head.TheVariants.{Whole}
 use Rattle.wd_machine.specs.declared.state.State.{State}
 use Rattle.wd_machine.specs.declared.state.WorkerState.{WorkerState}
 use Rattle.wd_machine.specs.declared.turn.Out.{Out}
-use Rattle.wd_machine.specs.Found.{is_worker, worker_of}
+use Rattle.wd_machine.specs.Found.{is_worker, worker_of, request_of, worker_for, ArePlaces}
 use Rattle.wd_machine.specs.Meaning.{Meaning}
 use Rattle.wd_machine.specs.Rules.{broken_in, is_open}
-use Rattle.wd_machine.specs.First.{first_state}
+use Rattle.wd_machine.specs.First.{first_state, first_isolate, started_worker, first_worker, workers_among, add}
 use Rattle.wd_machine.specs.Runs.{legal, legal_from, after, after_from}
-use Rattle.wd_machine.specs.Steps.{step, begun, turned}
-use Rattle.wd_top.specs.Board.{the_seat, IsRun, Rests, Stands}
+use Rattle.wd_machine.specs.Steps.{step, begun, turned, turn_out}
+use Rattle.wd_top.specs.Board.{the_seat, AreIdle, IsRun, Rests, Stands, Ends}
 use Rattle.wd_top.specs.Talk.{Talk, talk, asked_row, answered_row, add_row, with_reply, with_reply_if, came_over, talk_step, IsNumbered, arrival_count, seat_of, IsOfSeat}
 use Rattle.wd_top.specs.Session.{service_at, no_socket}
 use Rattle.wd_top.specs.Steps.{Adds, Others, Answers}
 use Rattle.wd_top.proofs.TalkSteps.{HasNext, talk_push, count_push, numbered_push, seat_push, below, reply_none, reply_last, nat_self, nat_other}
-use Rattle.wd_top.proofs.MachineSteps.{after_arrival, rests_arrived, while_turn, out_of, arrive_allowed, begin_allowed, turn_allowed, rests_turned, begins, turn_out_is}
+use Rattle.wd_top.proofs.MachineSteps.{after_arrival, rests_arrived, while_turn, out_of, arrive_allowed, begin_allowed, turn_allowed, rests_turned, begins, turn_out_is, found_place, turn_places}
 
 -- ONE ENTRY MORE
 
@@ -178,3 +179,73 @@ service_public world socket h = public_at world.sockets socket.0 h
 -- memory ran out before the arrival
 pub unasked : (x : NoMemory) (link : LinkNo) (service : List ℕ) (request : ReqData) (j : List Entry) → Answers link service request j j (Err x)
 unasked x link service request j = ((λ n ne. refl), inl refl)
+
+-- A SERVICE THAT IS NO WORKER
+
+pub asked_only : (q : Req) (service : List ℕ) (link : LinkNo) (request : ReqData) (j : List Entry) → Answers link service request j (j ++ arrive_entry q service link request ∷ []) (Ok None)
+asked_only q service link request j = (arrived_others q service link request j, (q.0, arrived_adds q service link request j))
+
+-- THE STEPS OF A REQUEST, BY THE PLACE OF ITS WORKER
+
+pub begun_run : {I : Type 0} (m : Meaning I) (world : Config) (s : State I) (j : List Entry) (n : ℕ) (q : Req) (service : List ℕ) (link : LinkNo) (request : ReqData) (place : ℕ) → IsRun m world (j ++ arrive_entry q service link request ∷ []) → Stands m world s j n → q.0 ≡ n + 1 → position_from (is_worker service) 0 s.workers ≡ Some place → IsRun m world (two_entries j q service link request)
+begun_run m world s j n q service link request place r x e found =
+    let w = found_place (is_worker service) s.workers 0 place found in
+    run_begun m world s j n q service link request w.0 r x e w.1
+
+pub places_begun : {I : Type 0} (m : Meaning I) (s s2 : State I) (n : ℕ) (q : Req) (service : List ℕ) (link : LinkNo) (request : ReqData) (place : ℕ) → Rests s n → q.0 ≡ n + 1 → position_from (is_worker service) 0 s.workers ≡ Some place → s2 ≡ begun m (after_arrival s q service link request) the_seat q
+    → ArePlaces s2.workers s2.requests (record { req = q; row = Some n; worker = Some place })
+places_begun m s s2 n q service link request place r e found is =
+    let w = found_place (is_worker service) s.workers 0 place found in
+    subst (λ t. ArePlaces t.workers t.requests (record { req = q; row = Some n; worker = Some place })) (sym (is ∙ begins m s n q service link request w.0 r e w.1)) (turn_places m s n q service link request w.0 place r e found)
+
+-- what is known when the turn has ended, or memory ran out in it
+pub record Exchanged {I : Type 0} (m : Meaning I) (world : Config) (link : LinkNo) (service : List ℕ) (request : ReqData) (j j3 : List Entry) (s3 : State I) (q : ℕ) (result : Result (Option Reply) NoMemory) : Type 0 where
+  pub answers : Answers link service request j j3 result
+  pub run : IsRun m world j3
+  pub stands : OnOk result (Stands m world s3 j3 q)
+
+pub exchanged : {I : Type 0} (m : Meaning I) (world : Config) (s s2 s3 : State I) (j j2 j3 : List Entry) (n : ℕ) (q : Req) (service : List ℕ) (link : LinkNo) (request : ReqData) (place : ℕ) (result : Result (Option Reply) NoMemory)
+    → IsNumbered j → IsRun m world (j ++ arrive_entry q service link request ∷ []) → Stands m world s j n → q.0 ≡ n + 1 → position_from (is_worker service) 0 s.workers ≡ Some place
+    → s2 ≡ begun m (after_arrival s q service link request) the_seat q → j2 ≡ two_entries j q service link request
+    → OnOk result (s3 ≡ turned s2 the_seat q) → IfOk result (λ reply. Ends q (turn_out (request_of q.0 s2.requests) (worker_for (request_of q.0 s2.requests) s2.workers)) j2 j3 reply) → OnErr result (j3 ≡ j2)
+    → Exchanged m world link service request j j3 s3 q.0 result
+exchanged m world s s2 s3 j j2 j3 n q service link request place (Err x) numbered r st e found is2 ij2 is3 ends err =
+    subst (λ k. Exchanged m world link service request j k s3 q.0 (Err x)) (sym (err ∙ ij2))
+      (record { answers = asks_begun x q service link request j; run = begun_run m world s j n q service link request place r st e found; stands = tt })
+exchanged m world s s2 s3 j j2 j3 n q service link request place (Ok reply) numbered r st e found is2 ij2 is3 ends err =
+    let w = found_place (is_worker service) s.workers 0 place found in
+    let out : Out = out_of m q service link request w.0 in
+    let now : s2 ≡ while_turn m s q service link request w.0 = is2 ∙ begins m s n q service link request w.0 st.rests e w.1 in
+    let gives : turn_out (request_of q.0 s2.requests) (worker_for (request_of q.0 s2.requests) s2.workers) ≡ Some out =
+      ap (λ t. turn_out (request_of q.0 t.requests) (worker_for (request_of q.0 t.requests) t.workers)) now ∙ turn_out_is m s n q service link request w.0 st.rests e w.1 in
+    let ended : Ends q (Some out) j2 j3 reply = subst (λ o. Ends q o j2 j3 reply) gives ends in
+    let whole : j3 ≡ three_entries j q service link request out = ended.0 ∙ ap (λ k. k ++ Turn the_seat q out ∷ []) ij2 in
+    let two : IsRun m world (two_entries j q service link request) = run_begun m world s j n q service link request w.0 r st e w.1 in
+    subst (λ k. Exchanged m world link service request j k s3 q.0 (Ok reply)) (sym whole)
+      (record {
+        answers = subst (λ o. Answers link service request j (three_entries j q service link request out) (Ok o)) (sym ended.1) (answers q service link request j out numbered (e ∙ ap (λ k. k + 1) st.count));
+        run = run_turned m world s j n q service link request w.0 two st e w.1;
+        stands = subst (λ t. Stands m world t (three_entries j q service link request out) q.0) (sym (is3 ∙ ap (λ t. turned t the_seat q) now)) (stands_turned m world s j n q service link request w.0 out st e w.1);
+      })
+
+-- BEFORE ANY ENTRY
+
+idle_add : {I : Type 0} (m : Meaning I) (world : List Service) (name : List ℕ) (def : Option WorkerDef) (ws : List (WorkerState I)) → AreIdle ws → AreIdle (add (first_worker m world name def) ws)
+idle_add m world name None ws a = a
+idle_add m world name (Some def) ws a = elim (first_isolate m world def) as (λ i. AreIdle (add (started_worker name i) ws)) [ None ↦ a | Some isolate ↦ (refl, refl, a) ]
+
+idle_first : {I : Type 0} (m : Meaning I) (world services : List Service) → AreIdle (workers_among m world services)
+idle_first m world [] = tt
+idle_first m world (s ∷ rest) = idle_add m world s.name (worker_in s.kind) (workers_among m world rest) (idle_first m world rest)
+
+pub first_run : {I : Type 0} (m : Meaning I) (world : Config) → IsRun m world []
+unfolding IsNumbered IsOfSeat
+first_run m world = record { allowed = refl; numbered = tt; seat = tt }
+
+pub first_stands : {I : Type 0} (m : Meaning I) (world : Config) → Stands m world (first_state m world) [] 0
+unfolding arrival_count
+first_stands m world = record {
+    state = refl;
+    rests = record { rows = tt; count = refl; running = refl; due = refl; idle = idle_first m world.services world.services };
+    count = refl;
+  }

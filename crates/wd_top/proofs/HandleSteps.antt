@@ -9,8 +9,8 @@ use Rattle.wd_ports.specs.declared.told.Failed.TheVariants.{Fault, NoMemory}
 use Rattle.wd_ports.specs.Told.{Told, on_link, with_received, with_sent, with_end, received_on, ended_on}
 use Rattle.wd_ports.specs.Send.{Sends}
 use Rattle.wd_machine.specs.declared.journal.Entry.{Entry}
-use Rattle.wd_top.specs.declared.http_in.Phase.TheVariants as phase
-use Rattle.wd_top.specs.declared.http_in.Fed.TheVariants as fed
+use Rattle.wd_top.specs.declared.http_in.conn.Phase.TheVariants as phase
+use Rattle.wd_top.specs.declared.http_in.conn.Fed.TheVariants as fed
 use Rattle.wd_top.specs.declared.seat.link.LinkRun.{LinkRun}
 use Rattle.wd_top.specs.declared.seat.link.Heard.{Heard}
 use Rattle.wd_top.specs.declared.seat.link.Heard.TheVariants as heard
@@ -19,7 +19,7 @@ use Rattle.wd_top.specs.declared.seat.link.StepEnd.TheVariants as end
 use Rattle.wd_top.specs.Stream.{IsFault, IsUnfinished}
 use Rattle.wd_top.specs.Text.{reply_text}
 use Rattle.wd_top.specs.Talk.{Talk, talk}
-use Rattle.wd_top.specs.Session.{tail_text, Carries, IsWhole}
+use Rattle.wd_top.specs.Session.{is_head, tail_text, Carries, IsWhole}
 use Rattle.wd_top.specs.Steps.{Answers, Reading, Opened, Asks, Known, Knows, SameButConn, Hears, Replies, IsLeft, After, Handles, end_of}
 use Rattle.wd_top.proofs.SessionSteps.{same_link, received_link, ended_link, sent_link, reading_more, reading_end, reading_asked, reading_sent, carries_part, carries_all, carries_asked, whole_closed, whole_ended, whole_refused, carries_refused}
 
@@ -74,15 +74,15 @@ left_after s l t run e gone (inr is) c = subst (λ x. After x s l t run gone) (s
 
 pub handles_request : (n : LinkNo) (s : List ℕ) (run : LinkRun) (i : Heard) (r : ReqData) (c : Bool) (e : StepEnd) (t new : Told) (j j' : List Entry) (gone : Type 0) → i ≡ heard.Fed (fed.Request r c) → Replies n s r c e gone t new j j' → Handles n s run (record run { ready = true }) i e t new j j' gone
 handles_request n s run i r c e t new j j' gone is (inl (p, w, a, x, ends, lost)) = record {
-    change = with_sent (take x.count (reply_text p c));
+    change = with_sent (take x.count (reply_text p (is_head r) c));
     tells = x.tells ∙ sent_link n _ t;
     stands = λ l. (refl, refl);
     same = (refl, refl);
     others = a.0;
     after = λ l k.
       let h : Asks s l (talk 0 n.0 j) r c run = subst (λ y. Known y s l (talk 0 n.0 j) run) is k in
-      subst (λ y. After y s (with_sent (take x.count (reply_text p c)) l) (talk 0 n.0 j') (record run { ready = true }) gone) (sym ends)
-      (sent_after s l (talk 0 n.0 j') (record run { ready = true }) c (reply_text p c) x.count w gone x.within x.whole lost h.phase refl
+      subst (λ y. After y s (with_sent (take x.count (reply_text p (is_head r) c)) l) (talk 0 n.0 j') (record run { ready = true }) gone) (sym ends)
+      (sent_after s l (talk 0 n.0 j') (record run { ready = true }) c (reply_text p (is_head r) c) x.count w gone x.within x.whole lost h.phase refl
         (reading_asked s l (talk 0 n.0 j) (talk 0 n.0 j') run r c a.1.0 p h a.1.1));
   }
 handles_request n s run i r c e t new j j' gone is (inr (others, asked, same, left)) = record {

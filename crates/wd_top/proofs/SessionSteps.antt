@@ -12,10 +12,10 @@ use Rattle.wd_ports.specs.Told.{Told, on_link, with_received, with_sent, with_en
 use Rattle.wd_ports.proofs.OneLink.{twice, unchanged}
 use Rattle.wd_top.specs.declared.seat.link.LinkRun.{LinkRun}
 use Rattle.wd_top.specs.Stream.{Requests, IsFault, IsUnfinished, EndsAs}
-use Rattle.wd_top.specs.Text.{reply_text}
+use Rattle.wd_top.specs.Text.{reply_text, line}
 use Rattle.wd_top.proofs.StreamSteps.{all_more, all_snoc, closing_snoc}
 use Rattle.wd_top.specs.Talk.{Row, Talk, answered, add_row}
-use Rattle.wd_top.specs.Session.{line, tail_text, asked, arrivals, replies, AreAt, Carries, IsWhole}
+use Rattle.wd_top.specs.Session.{is_head, tail_text, asked, arrivals, replies, AreAt, Carries, IsWhole}
 use Rattle.wd_top.specs.Steps.{Reading, Asks}
 
 -- what a port tells: one link is changed
@@ -47,15 +47,15 @@ pub reading_end : (service : List ℕ) (l : LinkState) (t : Talk) (rest : List �
 reading_end service l t rest r = record { requests = r.requests; reads = r.reads; closes = r.closes; arrived = r.arrived; placed = r.placed; orderly = r.orderly; answers = r.answers; sent = r.sent }
 
 -- a text more on the line
-line_snoc : (rs : Requests) (rows : List Row) (r : ReqData) (c : Bool) (row : Row) (p : Reply) → row.reply ≡ Some p → arrivals rows ≡ asked rs → answered rows ≡ true → line (rs ++ (r, c) ∷ []) (replies (rows ++ row ∷ [])) ≡ line rs (replies rows) ++ reply_text p c
-line_snoc [] [] r c row p is e a = ap (λ o. line ((r, c) ∷ []) (o ∷ [])) is ∙ append-nil (reply_text p c)
+line_snoc : (rs : Requests) (rows : List Row) (r : ReqData) (c : Bool) (row : Row) (p : Reply) → row.reply ≡ Some p → arrivals rows ≡ asked rs → answered rows ≡ true → line (rs ++ (r, c) ∷ []) (replies (rows ++ row ∷ [])) ≡ line rs (replies rows) ++ reply_text p (is_head r) c
+line_snoc [] [] r c row p is e a = ap (λ o. line ((r, c) ∷ []) (o ∷ [])) is ∙ append-nil (reply_text p (is_head r) c)
 line_snoc [] (x ∷ xs) r c row p is e a = absurd (cc)
 line_snoc (y ∷ ys) [] r c row p is e a = absurd (cc)
 line_snoc (y ∷ ys) (x ∷ xs) r c row p is e a =
     let tail : arrivals xs ≡ asked ys = cc in
-    elim x.reply as (λ o. (is_some o && answered xs) ≡ true → line (y ∷ (ys ++ (r, c) ∷ [])) (o ∷ replies (xs ++ row ∷ [])) ≡ line (y ∷ ys) (o ∷ replies xs) ++ reply_text p c) [
+    elim x.reply as (λ o. (is_some o && answered xs) ≡ true → line (y ∷ (ys ++ (r, c) ∷ [])) (o ∷ replies (xs ++ row ∷ [])) ≡ line (y ∷ ys) (o ∷ replies xs) ++ reply_text p (is_head r) c) [
       | None ↦ λ a. absurd (false≢true a)
-      | Some p' ↦ λ a. ap (λ t. reply_text p' y.1 ++ t) (line_snoc ys xs r c row p is tail a) ∙ sym (append_assoc (reply_text p' y.1) _ _)
+      | Some p' ↦ λ a. ap (λ t. reply_text p' (is_head y.0) y.1 ++ t) (line_snoc ys xs r c row p is tail a) ∙ sym (append_assoc (reply_text p' (is_head y.0) y.1) _ _)
     ] a
 
 -- the line stops at a request without a reply
@@ -67,7 +67,7 @@ line_stop (y ∷ ys) (x ∷ xs) r c row is e a =
     let tail : arrivals xs ≡ asked ys = cc in
     elim x.reply as (λ o. (is_some o && answered xs) ≡ true → line (y ∷ (ys ++ (r, c) ∷ [])) (o ∷ replies (xs ++ row ∷ [])) ≡ line (y ∷ ys) (o ∷ replies xs)) [
       | None ↦ λ a. absurd (false≢true a)
-      | Some p' ↦ λ a. ap (λ t. reply_text p' y.1 ++ t) (line_stop ys xs r c row is tail a)
+      | Some p' ↦ λ a. ap (λ t. reply_text p' (is_head y.0) y.1 ++ t) (line_stop ys xs r c row is tail a)
     ] a
 
 arrivals_snoc : (rs : Requests) (rows : List Row) (r : ReqData) (c : Bool) (row : Row) → row.request ≡ r → arrivals rows ≡ asked rs → arrivals (rows ++ row ∷ []) ≡ asked (rs ++ (r, c) ∷ [])
@@ -86,10 +86,10 @@ answered_snoc (x ∷ xs) row is a =
     ] a
 
 -- a request was answered: its text is due
-pub reading_asked : (service : List ℕ) (l : LinkState) (t t' : Talk) (run : LinkRun) (r : ReqData) (c : Bool) (q : ℕ) (p : Reply) → Asks service l t r c run → t' ≡ add_row (record { req = q; service = service; request = r; reply = Some p }) t → Reading service l t' run.conn.queue c (reply_text p c)
+pub reading_asked : (service : List ℕ) (l : LinkState) (t t' : Talk) (run : LinkRun) (r : ReqData) (c : Bool) (q : ℕ) (p : Reply) → Asks service l t r c run → t' ≡ add_row (record { req = q; service = service; request = r; reply = Some p }) t → Reading service l t' run.conn.queue c (reply_text p (is_head r) c)
 reading_asked service l t t' run r c q p a e =
     let x = a.reading in
-    subst (λ u. Reading service l u run.conn.queue c (reply_text p c)) (sym e)
+    subst (λ u. Reading service l u run.conn.queue c (reply_text p (is_head r) c)) (sym e)
     (record {
       requests = x.requests ++ (r, c) ∷ [];
       reads = all_snoc l.received x.requests a.rest r c run.conn.queue x.reads x.closes a.reads;
@@ -98,7 +98,7 @@ reading_asked service l t t' run r c q p a e =
       placed = at_snoc service t.rows _ refl x.placed;
       orderly = rw (x.orderly, x.answers) refl;
       answers = answered_snoc t.rows _ refl x.answers;
-      sent = line_snoc x.requests t.rows r c _ p refl x.arrived x.answers ∙ ap (λ s. s ++ reply_text p c) (x.sent ∙ append-nil l.sent);
+      sent = line_snoc x.requests t.rows r c _ p refl x.arrived x.answers ∙ ap (λ s. s ++ reply_text p (is_head r) c) (x.sent ∙ append-nil l.sent);
     })
 
 -- the front of what is due was sent

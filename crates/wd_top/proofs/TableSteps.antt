@@ -13,7 +13,7 @@ use Rattle.wd_ports.specs.Told.{Told, on_link, link_of, blank, shut_on, with_shu
 use Rattle.wd_ports.specs.Links.{Stays}
 use Rattle.wd_ports.proofs.OneLink.{twice}
 use Rattle.wd_machine.specs.declared.journal.Entry.{Entry}
-use Rattle.wd_top.specs.declared.http_in.Conn.{Conn}
+use Rattle.wd_top.specs.declared.http_in.conn.Conn.{Conn}
 use Rattle.wd_top.specs.declared.seat.link.LinkRun.{LinkRun}
 use Rattle.wd_top.specs.declared.seat.link.Heard.{Heard}
 use Rattle.wd_top.specs.declared.seat.link.StepEnd.{StepEnd}

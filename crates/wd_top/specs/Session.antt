@@ -1,5 +1,5 @@
 -- A session: what the links of a port carry, by the journal.
-use Rattle.std.specs.Prelude.{◌≡◌, ◌⊎◌, ℕ, ◌<◌, ◌+◌, Bool, true, false, List, [], ◌∷◌, ◌++◌, map, length, take, Option, Some, None, IfSome, IsSome, slice_index_or}
+use Rattle.std.specs.Prelude.{◌≡◌, ◌⊎◌, ℕ, ◌<◌, ◌+◌, Bool, true, false, List, [], ◌∷◌, ◌++◌, map, length, take, Option, Some, None, IfSome, IsSome, slice_index_or, bytes_eq, codes}
 use Rattle.wd_base.specs.declared.ids.LinkNo.{LinkNo}
 use Rattle.wd_base.specs.declared.ids.SockNo.{SockNo}
 use Rattle.wd_base.specs.declared.config.Socket.{Socket}
@@ -11,20 +11,17 @@ use Rattle.wd_ports.specs.declared.told.LinkOrigin.TheVariants.{Socket as AtSock
 use Rattle.wd_ports.specs.Told.{blank}
 use Rattle.wd_machine.specs.declared.journal.Entry.{Entry}
 use Rattle.wd_top.specs.Stream.{Requests, ReadsAll, closing, IsFault, RequestsOf}
-use Rattle.wd_top.specs.Text.{reply_text, bad_reply}
+use Rattle.wd_top.specs.Text.{reply_text, bad_reply, line}
 use Rattle.wd_top.specs.Talk.{Row, Talk, answered, no_talk, talk, TakesTurns}
 
--- the reply texts of the requests in order, up to the first without a reply
-abbrev pub line : Requests → List (Option Reply) → List ℕ
-line [] replies = []
-line (r ∷ rs) [] = []
-line (r ∷ rs) (None ∷ replies) = []
-line (r ∷ rs) (Some reply ∷ replies) = reply_text reply r.1 ++ line rs replies
+-- the request asks for the head of its reply alone (RFC 9110, section 9.3.2)
+abbrev pub is_head : ReqData → Bool
+is_head request = bytes_eq request.method (codes "HEAD")
 
 -- the text that refuses bytes that are no request
 abbrev pub tail_text : Option ℕ → List ℕ
 tail_text None = []
-tail_text (Some code) = reply_text (bad_reply code) true
+tail_text (Some code) = reply_text (bad_reply code) false true
 
 -- what the requests ask
 abbrev pub asked : Requests → List ReqData

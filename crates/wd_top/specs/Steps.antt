@@ -12,8 +12,8 @@ use Rattle.wd_ports.specs.Faults.{Part, part}
 use Rattle.wd_ports.specs.Told.{Told, on_link}
 use Rattle.wd_ports.specs.Send.{Sends}
 use Rattle.wd_machine.specs.declared.journal.Entry.{Entry}
-use Rattle.wd_top.specs.declared.http_in.Phase.TheVariants as phase
-use Rattle.wd_top.specs.declared.http_in.Fed.TheVariants as fed
+use Rattle.wd_top.specs.declared.http_in.conn.Phase.TheVariants as phase
+use Rattle.wd_top.specs.declared.http_in.conn.Fed.TheVariants as fed
 use Rattle.wd_top.specs.declared.seat.link.LinkRun.{LinkRun}
 use Rattle.wd_top.specs.declared.seat.link.Stage.{Stage}
 use Rattle.wd_top.specs.declared.seat.link.Stage.TheVariants.{Open, Shut, Stopped}
@@ -22,9 +22,9 @@ use Rattle.wd_top.specs.declared.seat.link.Heard.TheVariants as heard
 use Rattle.wd_top.specs.declared.seat.link.StepEnd.{StepEnd}
 use Rattle.wd_top.specs.declared.seat.link.StepEnd.TheVariants as end
 use Rattle.wd_top.specs.Stream.{Requests, Reads, ReadsAll, closing, IsFault, IsUnfinished}
-use Rattle.wd_top.specs.Text.{reply_text}
+use Rattle.wd_top.specs.Text.{reply_text, line}
 use Rattle.wd_top.specs.Talk.{Talk, talk, answered, add_row}
-use Rattle.wd_top.specs.Session.{line, asked, arrivals, replies, AreAt, Carries, IsWhole}
+use Rattle.wd_top.specs.Session.{is_head, asked, arrivals, replies, AreAt, Carries, IsWhole}
 
 -- a request of the link was taken, and nothing else is new of the link
 abbrev pub Adds : LinkNo → List ℕ → ReqData → Option Reply → List Entry → List Entry → Type 0
@@ -113,7 +113,7 @@ IsLeft e = (e ≡ end.Full) ⊎ (e ≡ end.Waits)
 -- the request was answered, and its text sent from the front; or it has no reply, or memory ran out before
 abbrev pub Replies : LinkNo → List ℕ → ReqData → Bool → StepEnd → Type 0 → Told → Told → List Entry → List Entry → Type 0
 Replies n service r close e gone old new j j' =
-    ((reply : Reply) × (result : Result (Unit {0}) Failed) × Answers n service r j j' (Ok (Some reply)) × Sends n (reply_text reply close) result old new × (e ≡ end_of result close) × (IsErrOf result Fault → gone))
+    ((reply : Reply) × (result : Result (Unit {0}) Failed) × Answers n service r j j' (Ok (Some reply)) × Sends n (reply_text reply (is_head r) close) result old new × (e ≡ end_of result close) × (IsErrOf result Fault → gone))
     ⊎ (Others n j j' × ((talk 0 n.0 j' ≡ talk 0 n.0 j) ⊎ Adds n service r None j j') × (new ≡ old) × IsLeft e)
 
 -- what is known of a link after a step

@@ -55,6 +55,14 @@ impl<I: Isolate> Model for Board<I> {
     ghost invariant = { λ b. IsRun I.means b.world b.entries × (first_unknown b.world ≡ None) × (b.stopped ≡ false → Stands I.means b.world b.machine b.entries b.count) };
 }
 
+/// The name of the service that answers at a socket.
+fn service_of(alloc: Global, world: &World, socket: SockNo) -> Result<Bytes, NoMemory>
+    requires { socket.0 < length world.now.sockets }
+    ensures { IfOk result (λ name. name ≡ service_at world.now.sockets socket) }
+{
+    world.sockets().as_slice()[socket.0 as usize].service.try_clone(alloc)
+}
+
 /// A request arrives over a link of seat 0; `worker` is the place of the service's Worker.
 fn arrive<I>(alloc: Global, machine: &mut Machine<I>, entries: &mut Entries, worker: Option<usize>, req: Req, service: &Bytes, link: LinkNo, request: ReqData) -> Result<(), NoMemory>
     requires { position_from (is_worker service.now) 0 machine.old.workers ≡ worker }
@@ -132,18 +140,71 @@ fn exchange<I: Isolate>(alloc: Global, world: &World, machine: &mut Machine<I>, 
         row: Some(count as usize),
         worker: Some(place),
     };
-    begin(machine, entries, places)?;
-    finish(alloc, machine, entries, places)
+    match begin(machine, entries, places) {
+        Err(NoMemory) => Err(NoMemory),
+        Ok(()) => finish(alloc, machine, entries, places),
+    }
+}
+
+impl<I: Isolate + Drop> Board<I> {
+    /// An empty journal. `isolates` has the first isolate of each Worker of the world, in order,
+    /// and every name in the world is that of a service.
+    pub fn new(alloc: Global, world: World, isolates: Vec<I>) -> Result<Board<I>, NoMemory>
+        requires first { AreFirst I.means world isolates.items }
+        requires known { first_unknown world ≡ None }
+        ensures { IfOk result (λ board. board ≡ (world, [])) }
+    {
+        let machine = Machine::new(&world, isolates)?;
+        Ok(Board {
+            world,
+            machine,
+            entries: Entries::new(alloc),
+            count: 0,
+            stopped: false,
+        })
+    }
+
+    /// The journal. It takes no memory.
+    pub fn into_journal(self) -> Journal
+        ensures entries { result.entries ≡ self.1 }
+        ensures head { result.head ≡ HeadIs.Whole }
+        ensures legal { IsTrue (legal I.means self.0 result) }
+        ensures run { IsRun I.means self.0 self.1 }
+    {
+        let Board { entries, .. } = self;
+        Journal {
+            head: Head::Whole,
+            entries,
+        }
+    }
 }
 
 impl<I: Isolate> Board<I> {
+    /// The entries are at any time a legal journal of seat 0, with its requests numbered in order.
+    pub fn is_run(&self)
+        ensures { IsRun I.means self.now.0 self.now.1 }
+    {
+        let _ = &self.entries;
+    }
+
     /// A request over a link that came at a socket, from its arrival to the end of its turn. It
     /// gives the request's reply as it stands in the journal, and None where the request has none.
+    #[tactic(auto, using(crate::proofs::BoardSteps::unasked, crate::proofs::BoardSteps::service_known, crate::proofs::BoardSteps::service_public))]
     pub fn answer(&mut self, alloc: Global, link: LinkNo, socket: SockNo, request: ReqData) -> Result<Option<Reply>, NoMemory>
         requires { socket.0 < length self.old.0.sockets }
         ensures answers { Answers link (service_at self.old.0.sockets socket) request self.old.1 self.new.1 result }
         ensures world { self.new.0 ≡ self.old.0 }
     {
-        Err(NoMemory)
+        if self.stopped || self.count == u64::MAX {
+            return Err(NoMemory);
+        }
+        let Ok(service) = service_of(alloc, &self.world, socket) else {
+            return Err(NoMemory);
+        };
+        self.stopped = true;
+        let reply = exchange(alloc, &self.world, &mut self.machine, &mut self.entries, self.count, link, &service, request)?;
+        self.count += 1;
+        self.stopped = false;
+        Ok(reply)
     }
 }

@@ -3,7 +3,7 @@ ghost use Rattle.wd_ports.specs.Links.{Keeps, Stays};
 ghost use Rattle.wd_ports.specs.Send.{Sends};
 ghost use Rattle.wd_top.specs.declared.seat.link.Heard.{Heard as HeardIs};
 ghost use Rattle.wd_top.specs.Text.{reply_text};
-ghost use Rattle.wd_top.specs.Session.{service_at, tail_text};
+ghost use Rattle.wd_top.specs.Session.{service_at, tail_text, is_head};
 ghost use Rattle.wd_top.specs.Steps.{Knows, SameButConn, Hears, Replies, Handles, NoneFell, end_of};
 
 use crate::board::Board;
@@ -103,18 +103,25 @@ pub fn hear<P: Port>(port: &mut P, alloc: Global, run: &mut LinkRun, link: LinkN
 
 /// Sends a reply's text.
 #[tactic(auto, using(wd_ports::proofs::OneLink::sent_nothing, crate::proofs::FaultSteps::none_fell_same, crate::proofs::FaultSteps::written))]
-fn send<P: Port>(port: &mut P, alloc: Global, link: LinkNo, reply: &Reply, close: bool) -> Result<(), Failed>
+fn send<P: Port>(port: &mut P, alloc: Global, link: LinkNo, reply: &Reply, head: bool, close: bool) -> Result<(), Failed>
     requires usable { P.usable port.old link }
-    ensures sends { Sends link (reply_text reply.now close) result (P.told port.old) (P.told port.new) }
+    ensures sends { Sends link (reply_text reply.now head close) result (P.told port.old) (P.told port.new) }
     ensures lost { IsErrOf result Failed.Fault → P.gone port.new link }
     ensures keeps { Keeps (P.usable port.old) (P.side port.old) (P.usable port.new) (P.side port.new) }
     ensures stays { Stays (P.gone port.old) (P.gone port.new) }
     ensures faults { NoneFell (P.faults port.old) (P.faults port.new) }
 {
-    match reply_text(alloc, reply, close) {
+    match reply_text(alloc, reply, head, close) {
         Err(NoMemory) => Err(Failed::NoMemory),
         Ok(text) => write_all(port, link, text.as_slice()),
     }
+}
+
+/// The request asks for the head of its reply alone.
+fn is_head(request: &ReqData) -> bool
+    ensures { result ≡ is_head request.now }
+{
+    request.method.as_slice() == b"HEAD".as_slice()
 }
 
 /// A request's arrival, its turn, and its reply's text on the link.
@@ -128,11 +135,12 @@ fn reply_to<P: Port, I: Isolate>(port: &mut P, alloc: Global, board: &mut Board<
     ensures stays { Stays (P.gone port.old) (P.gone port.new) }
     ensures faults { NoneFell (P.faults port.old) (P.faults port.new) }
 {
+    let head = is_head(&request);
     match board.answer(alloc, link, socket, request) {
         Err(NoMemory) => StepEnd::Full,
         Ok(None) => StepEnd::Waits,
         Ok(Some(reply)) => {
-            let sent = send(port, alloc, link, &reply, close);
+            let sent = send(port, alloc, link, &reply, head, close);
             end_of(sent, close)
         }
     }

@@ -10,7 +10,7 @@ pub returns-in-Fed-Request-clause-handles : goal.returns-in-Fed-Request-clause-h
 returns-in-Fed-Request-clause-handles g c = handles_request _ _ c.args.run.now _ c.in-Fed-Request.request c.in-Fed-Request.close _ _ _ _ _ _ (c.in-Fed-Request.is ∙ ap heard.Fed c.in-Fed-Request.field-0-is) c.reply_to.ensures.replies
 
 pub returns-in-Fed-Bad-clause-handles : goal.returns-in-Fed-Bad-clause-handles
-returns-in-Fed-Bad-clause-handles g c = rw c.end_of-in-Fed-Bad.ensures (handles_bad _ _ c.args.run.now _ c.in-Fed-Bad.code c.refuse-refused.result _ _ _ _ (c.in-Fed-Bad.is ∙ ap heard.Fed c.in-Fed-Bad.field-0-is) c.refuse-refused.ensures.lost c.refuse-refused.ensures.sends)
+returns-in-Fed-Bad-clause-handles g c = rw c.end_of.ensures (handles_bad _ _ c.args.run.now _ c.in-Fed-Bad.code c.refuse-refused.result _ _ _ _ (c.in-Fed-Bad.is ∙ ap heard.Fed c.in-Fed-Bad.field-0-is) c.refuse-refused.ensures.lost c.refuse-refused.ensures.sends)
 
 pub returns-in-Nothing-clause-handles : goal.returns-in-Nothing-clause-handles
 returns-in-Nothing-clause-handles g c = handles_nothing _ _ c.args.run.now _ _ _ _ c.in-Nothing.is

@@ -3,7 +3,7 @@ use Rattle.wd_top.proofs.TableSteps.{tended_move, found_run, kept_move}
 use Rattle.wd_top.proofs.seat.table.tend.Goals as goal
 
 pub tend_run-requires-clause-socket : goal.tend_run-requires-clause-socket
-tend_run-requires-clause-socket g c = let here = found_run c.args.runs.now.items c.args.at _ c.requires.found c.index_mut.ensures.value in
+tend_run-requires-clause-socket g c κs within = let here = found_run c.args.runs.now.items c.args.at _ c.requires.found c.index_mut.ensures.value in
     subst (λ r. r.socket.0 < length c.args.board.now.0.sockets) (sym here) (c.requires.tended.places c.args.at c.requires.found)
 
 pub returns-clause-tended : goal.returns-clause-tended

@@ -4,7 +4,7 @@ use Rattle.wd_top.proofs.LiveSteps.{below_index, covers_step}
 use Rattle.wd_top.proofs.seat.table.tend_listed.Goals as goal
 
 pub tend-requires-clause-found : goal.tend-requires-clause-found
-tend-requires-clause-found g c = rw c.loop-k.invariant.same (below_index _ c.args.live.now c.loop-k.k c.loop-k-test.true c.requires.within)
+tend-requires-clause-found g c κs within = rw c.loop-k.invariant.same (below_index _ c.args.live.now c.loop-k.k c.loop-k-test.true c.requires.within)
 
 pub loop-k-preserved : goal.loop-k-preserved
 loop-k-preserved g c = record {
