@@ -102,10 +102,7 @@ fn unknown(
 
 /// The first name that a Worker refers to and no service has.
 #[tactic(auto, using(crate::proofs::FindLemmas::find_append_none, crate::proofs::FindLemmas::find_append_some))]
-fn unknown_to_workers(
-    alloc: Global,
-    services: &[Service],
-) -> Result<Option<GraphFault>, NoMemory>
+fn unknown_to_workers(alloc: Global, services: &[Service]) -> Result<Option<GraphFault>, NoMemory>
     ensures { IfOk result (λ fault. fault ≡ find (is_unknown services.now) (flat_map named_by services.now)) }
 {
     for service in services {

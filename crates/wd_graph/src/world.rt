@@ -56,6 +56,13 @@ impl World {
         }
     }
 
+    /// The services, in the order of their numbers.
+    pub fn services(&self) -> &Services
+        ensures { result.now ≡ self.now.services }
+    {
+        &self.services
+    }
+
     /// The service of this number.
     pub fn service(&self, no: ServiceNo) -> &Service
         requires { no.0 < length self.now.services }

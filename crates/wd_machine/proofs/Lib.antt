@@ -1,0 +1,5 @@
+pub mod FirstLemmas
+pub mod KeyedLemmas
+pub mod RunLemmas
+pub mod SameLemmas
+pub mod StepLemmas

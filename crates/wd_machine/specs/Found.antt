@@ -3,12 +3,11 @@ use Rattle.std.specs.Prelude.{ℕ, ◌==◌, ◌≡◌, Bool, true, false, List,
 use Rattle.std.specs.List.{find, position_from}
 use Rattle.wd_base.specs.declared.ids.Req.{Req}
 use Rattle.wd_graph.specs.Names.{same_name}
-use Rattle.wd_machine.specs.declared.machine.Places.{Places}
+use Rattle.wd_machine.specs.declared.find.Places.{Places}
 use Rattle.wd_machine.specs.declared.state.Due.{Due}
 use Rattle.wd_machine.specs.declared.state.Pending.{Pending}
 use Rattle.wd_machine.specs.declared.state.RequestState.{RequestState}
 use Rattle.wd_machine.specs.declared.state.Run.{Run}
-use Rattle.wd_machine.specs.declared.state.State.{State}
 use Rattle.wd_machine.specs.declared.state.Waiter.{Waiter}
 use Rattle.wd_machine.specs.declared.state.WorkerState.{WorkerState}
 
@@ -74,6 +73,6 @@ abbrev pub due_on : ℕ → List Due → List Due
 due_on seat due = filter (λ d. d.seat.0 == seat) due
 
 -- the places where a request and its Worker are found
-pub record ArePlaces {I : Type 0} (s : State I) (req : ℕ) (places : Places) : Type 0 where
-  pub row : position_from (is_request req) 0 s.requests ≡ places.row
-  pub worker : position_from (is_worker (service_at (request_of req s.requests))) 0 s.workers ≡ places.worker
+pub record ArePlaces {I : Type 0} (workers : List (WorkerState I)) (rows : List RequestState) (places : Places) : Type 0 where
+  pub row : position_from (is_request places.req.0) 0 rows ≡ places.row
+  pub worker : position_from (is_worker (service_at (request_of places.req.0 rows))) 0 workers ≡ places.worker

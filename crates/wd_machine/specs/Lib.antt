@@ -3,6 +3,8 @@ pub mod Keyed
 pub mod Found
 pub mod Same
 pub mod Ends
+pub mod Entries
 pub mod Rules
 pub mod Steps
+pub mod First
 pub mod Runs

@@ -97,6 +97,10 @@ done_objects Dead = []
 abbrev pub has_number : List ℕ → ℕ → Bool
 has_number numbers n = list_any (λ k. k == n) numbers
 
+-- the object of this number stands in the list
+abbrev pub has_obj : List Obj → ℕ → Bool
+has_obj objs n = list_any (λ o. o.0 == n) objs
+
 -- the numbers of objects
 abbrev pub numbers : List Obj → List ℕ
 numbers objs = map (λ o. o.0) objs
@@ -137,8 +141,20 @@ unlinked o = record o { link = None }
 -- an `Out` of a turn that did nothing
 abbrev pub nothing_done : Out
 nothing_done = record {
-  made = []; changed = []; freed = []; uses = []; stray = []; ops = []; reply = None; waits = 0;
-  cross = []; released = []; condemned = false; heavy = false; logs = []; steps = 0;
+  made = [];
+  changed = [];
+  freed = [];
+  uses = [];
+  stray = [];
+  ops = [];
+  reply = None;
+  waits = 0;
+  cross = [];
+  released = [];
+  condemned = false;
+  heavy = false;
+  logs = [];
+  steps = 0;
 }
 
 -- the turn of the meaning was made; where memory was wanting, the objects have their links still
@@ -152,7 +168,7 @@ was_held m s t req obj = has_object (held_at m s t.generation) req obj || ((req 
 
 -- the turn let the handle go
 abbrev pub lets_go : Out → ℕ → ℕ → ℕ → Bool
-lets_go out own req obj = ((req == own) && has_number (numbers out.freed) obj) || has_object out.released req obj
+lets_go out own req obj = ((req == own) && has_obj out.freed obj) || has_object out.released req obj
 
 -- each handle of the request that is held names one of its objects, as does the wake
 pub record HoldsObjects {S : Type 0} (m : Meaning S) (s : S) (t : TurnIn) : Type 0 where
@@ -180,17 +196,17 @@ pub record IsTurn {S : Type 0} (m : Meaning S) (s : S) (t : TurnIn) (gives : Tur
   -- the objects after it are those that it was given and behind them those that it made
   pub objects : object_numbers gives.objects ≡ object_numbers t.objects ++ numbers gives.out.made
   -- what it uses is among the request's objects, where the handles that are held are
-  pub uses : HoldsObjects m s t → (obj : ℕ) → has_number (numbers gives.out.uses) obj ≡ true → has_number (object_numbers gives.objects) obj ≡ true
+  pub uses : HoldsObjects m s t → (obj : ℕ) → has_obj gives.out.uses obj ≡ true → has_number (object_numbers gives.objects) obj ≡ true
   -- a stray use is of another request's object
   pub stray : (req obj : ℕ) → has_object gives.out.stray req obj ≡ true → req ≢ t.req.0
   -- what it frees is ascending, without repeats and among the request's objects
   pub rises : Rises (numbers gives.out.freed)
-  pub freed : (obj : ℕ) → has_number (numbers gives.out.freed) obj ≡ true → has_number (object_numbers gives.objects) obj ≡ true
+  pub freed : (obj : ℕ) → has_obj gives.out.freed obj ≡ true → has_number (object_numbers gives.objects) obj ≡ true
   -- a handle that is held after it was held before it or came by the wake, and was not let go
   pub held : gives.out.condemned ≡ false → (req obj : ℕ) → has_object (m.held gives.isolate) req obj ≡ true → was_held m s t req obj ≡ true
   pub kept : gives.out.condemned ≡ false → (req obj : ℕ) → has_object (m.held gives.isolate) req obj ≡ true → lets_go gives.out t.req.0 req obj ≡ false
   -- what it frees was held before it or came by the wake
-  pub freed_held : (obj : ℕ) → has_number (numbers gives.out.freed) obj ≡ true → was_held m s t t.req.0 obj ≡ true
+  pub freed_held : (obj : ℕ) → has_obj gives.out.freed obj ≡ true → was_held m s t t.req.0 obj ≡ true
   -- what it releases was held before it, and is of another request
   pub released : (req obj : ℕ) → has_object gives.out.released req obj ≡ true → has_object (held_at m s t.generation) req obj ≡ true
   pub released_other : (req obj : ℕ) → has_object gives.out.released req obj ≡ true → req ≢ t.req.0

@@ -2,7 +2,6 @@
 use Rattle.std.specs.Prelude.{ℕ, ◌==◌, nat_lt, nat_le, Bool, true, false, not, ◌&&◌, List, [], ◌∷◌, length, Option, Some, None, is_some, is_none}
 use Rattle.wd_base.specs.declared.config.Config.{Config}
 use Rattle.wd_base.specs.declared.ids.Req.{Req}
-use Rattle.wd_base.specs.declared.ids.Seat.{Seat}
 use Rattle.wd_base.specs.declared.objects.Origin.{Origin}
 use Rattle.wd_base.specs.declared.objects.Origin.TheVariants.{Outside, Child, Caller}
 use Rattle.wd_graph.specs.Names.{service_of, is_public}
@@ -22,7 +21,8 @@ use Rattle.wd_machine.specs.declared.state.Waiter.{Waiter}
 use Rattle.wd_machine.specs.declared.state.WorkerState.{WorkerState}
 use Rattle.wd_machine.specs.declared.turn.Out.{Out}
 use Rattle.wd_machine.specs.declared.turn.OutField.{OutField}
-use Rattle.wd_machine.specs.Ends.{whole_out}
+use Rattle.wd_machine.specs.Entries.{seat_of}
+use Rattle.wd_machine.specs.Ends.{waits_in, whole_out}
 use Rattle.wd_machine.specs.Found.{request_of, worker_for, waiters_at, waiting, front, holder_of, run_on, due_on}
 use Rattle.wd_machine.specs.Same.{first_difference}
 
@@ -50,16 +50,6 @@ is_open world (Part service) name = false
 abbrev pub is_whole : Head → Bool
 is_whole Whole = true
 is_whole (Part service) = false
-
--- the seat of an entry
-abbrev pub seat_of : Entry → Seat
-seat_of (Arrive seat req service origin allow request) = seat
-seat_of (Begin seat req) = seat
-seat_of (Turn seat req out) = seat
-seat_of (Answer seat req op result) = seat
-seat_of (Served seat req reply) = seat
-seat_of (Cancel seat req) = seat
-seat_of (Drain seat) = seat
 
 -- A5 to A8: the origin. A child arrives as its seat's front duty, and there are no duties yet
 abbrev pub broken_origin : Bool → Bool → List ℕ → Origin → ℕ → Option Refused
@@ -106,20 +96,20 @@ broken_field None = None
 broken_field (Some field) = Some (record { rule = 15; kept = Field field })
 
 -- A15: the `Out` is that of the turn, with the reply that the turn's end gives. A seat runs no turn that is not pending
-abbrev pub broken_out : RequestState → Option Pending → List Waiter → Out → Option Refused
-broken_out r None waiters out = Some (record { rule = 14; kept = Nothing })
-broken_out r (Some p) waiters out = broken_field (first_difference (whole_out r waiters p.out) out)
+abbrev pub broken_out : RequestState → Option Pending → Bool → Out → Option Refused
+broken_out r None waiting out = Some (record { rule = 14; kept = Nothing })
+broken_out r (Some p) waiting out = broken_field (first_difference (whole_out r waiting p.out) out)
 
 -- A15 where the request is there
-abbrev pub broken_pending : Option RequestState → List Waiter → Out → Option Refused
-broken_pending None waiters out = Some (record { rule = 14; kept = Nothing })
-broken_pending (Some r) waiters out = broken_out r r.pending waiters out
+abbrev pub broken_pending : Option RequestState → Bool → Out → Option Refused
+broken_pending None waiting out = Some (record { rule = 14; kept = Nothing })
+broken_pending (Some r) waiting out = broken_out r r.pending waiting out
 
 -- A14 and A15: the seat runs the request's turn, and the `Out` is what it did
 abbrev pub broken_turn : {I : Type 0} → Option RequestState → Option (WorkerState I) → List Run → ℕ → ℕ → Out → Option Refused
 broken_turn row worker running seat req out =
     unless (is_number req (run_on seat running)) 14 (kept_number (run_on seat running))
-    (broken_pending row (waiters_at worker) out)
+    (broken_pending row (waits_in req (waiters_at worker)) out)
 
 -- A21: the seat runs nothing, and has something to free; nothing is due yet
 abbrev pub broken_drain : Option Req → Option Refused

@@ -8,6 +8,8 @@ use Rattle.wd_base.specs.contracts.ids.Obj as obj
 use Rattle.wd_base.specs.contracts.ids.Req as req
 use Rattle.wd_base.specs.contracts.objects.ObjName as obj_name
 use Rattle.wd_base.specs.contracts.objects.OpStart as op_start
+use Rattle.wd_base.specs.declared.ids.JobNo.{JobNo}
+use Rattle.wd_base.specs.declared.ids.Req.{Req}
 use Rattle.wd_machine.specs.declared.turn.Out.{Out}
 use Rattle.wd_machine.specs.declared.turn.OutField.{OutField}
 use Rattle.wd_machine.specs.declared.turn.OutField.TheVariants.{Made, Changed, Freed, Uses, Stray, Ops, Reply, Waits, Cross, Released, Condemned, Heavy, Logs, Steps}
@@ -33,6 +35,18 @@ abbrev pub unless_same : Bool → OutField → Option OutField → Option OutFie
 unless_same true field rest = rest
 unless_same false field rest = Some field
 
+-- the code of a list of kept jobs
+abbrev pub coded_crosses : Coded (List (Req × JobNo))
+coded_crosses = coded_list (coded× req.the_row.coded job.the_row.coded)
+
+-- the first of the last four fields in which two `Out`s differ
+abbrev pub last_difference : Out → Out → Option OutField
+last_difference a b =
+    unless_same (is_same coded_bool a.condemned b.condemned) Condemned
+    (unless_same (is_same coded_bool a.heavy b.heavy) Heavy
+    (unless_same (is_same (coded_list (coded_list coded_ℕ)) a.logs b.logs) Logs
+    (unless_same (a.steps == b.steps) Steps None)))
+
 -- the first field in which two `Out`s differ, in the order of their declaration
 abbrev pub first_difference : Out → Out → Option OutField
 first_difference a b =
@@ -44,9 +58,6 @@ first_difference a b =
     (unless_same (is_same (coded_list op_start.the_row.coded) a.ops b.ops) Ops
     (unless_same (is_same (coded_option reply.the_row.coded) a.reply b.reply) Reply
     (unless_same (a.waits == b.waits) Waits
-    (unless_same (is_same (coded_list (coded× req.the_row.coded job.the_row.coded)) a.cross b.cross) Cross
+    (unless_same (is_same coded_crosses a.cross b.cross) Cross
     (unless_same (is_same (coded_list obj_name.the_row.coded) a.released b.released) Released
-    (unless_same (is_same coded_bool a.condemned b.condemned) Condemned
-    (unless_same (is_same coded_bool a.heavy b.heavy) Heavy
-    (unless_same (is_same (coded_list (coded_list coded_ℕ)) a.logs b.logs) Logs
-    (unless_same (a.steps == b.steps) Steps None)))))))))))))
+    (last_difference a b))))))))))

@@ -1,5 +1,5 @@
 -- What each entry changes.
-use Rattle.std.specs.Prelude.{ℕ, ◌+◌, ◌-◌, ◌==◌, Bool, true, false, not, ◌||◌, if◌then◌else◌, List, [], ◌∷◌, ◌++◌, filter, map, Option, Some, None, is_some, unwrap_or}
+use Rattle.std.specs.Prelude.{◌≡◌, ℕ, ◌+◌, ◌-◌, ◌==◌, Bool, true, false, not, ◌||◌, if◌then◌else◌, List, [], ◌∷◌, ◌++◌, filter, map, Option, Some, None, is_some, unwrap_or}
 use Rattle.wd_base.specs.declared.ids.Obj.{Obj}
 use Rattle.wd_base.specs.declared.ids.Req.{Req}
 use Rattle.wd_base.specs.declared.ids.Seat.{Seat}
@@ -19,10 +19,11 @@ use Rattle.wd_machine.specs.declared.state.State.{State}
 use Rattle.wd_machine.specs.declared.state.Waiter.{Waiter}
 use Rattle.wd_machine.specs.declared.state.WorkerState.{WorkerState}
 use Rattle.wd_machine.specs.declared.turn.Out.{Out}
-use Rattle.wd_machine.specs.Ends.{ends, whole_reply, left_live, freed_by}
+use Rattle.wd_machine.specs.declared.ends.Done.{Done}
+use Rattle.wd_machine.specs.Ends.{waits_in, ends, whole_reply, whole_out, left_live, freed_by}
 use Rattle.wd_machine.specs.Found.{is_request, is_worker, request_of, worker_of, worker_for, waiters_at}
 use Rattle.wd_machine.specs.Keyed.{change}
-use Rattle.wd_machine.specs.Meaning.{Meaning, TurnIn, TurnGives, has_number, numbers, spent}
+use Rattle.wd_machine.specs.Meaning.{Meaning, TurnIn, TurnGives, has_obj, spent}
 
 -- one more waits, behind the others
 abbrev pub waits_too : {I : Type 0} → Waiter → WorkerState I → WorkerState I
@@ -31,9 +32,20 @@ waits_too waiter w = record w { waiters = w.waiters ++ waiter ∷ [] }
 -- a request that has arrived
 abbrev pub new_request : Seat → Req → List ℕ → Origin → ℕ → RequestState
 new_request seat req service origin allow = record {
-  req = req; seat = seat; service = service; origin = origin; left = allow; generation = None;
-  flights = []; live = []; objects = []; pending = None;
-  replied = false; waits = 0; detached = false; ended = false;
+  req = req;
+  seat = seat;
+  service = service;
+  origin = origin;
+  left = allow;
+  generation = None;
+  flights = [];
+  live = [];
+  objects = [];
+  pending = None;
+  replied = false;
+  waits = 0;
+  detached = false;
+  ended = false;
 }
 
 -- Arrive: the request is there, and at a Worker it waits for its start
@@ -58,8 +70,17 @@ taken_by req isolate rest w = record w { isolate = isolate; holder = Some req; w
 -- the request whose turn was made, and runs
 abbrev pub runs_turn : {I : Type 0} → ℕ → TurnGives I → RequestState → RequestState
 runs_turn generation gives r = record r {
-  generation = Some generation; objects = []; pending = Some (record { objects = gives.objects; out = gives.out });
+  generation = Some generation;
+  objects = [];
+  pending = Some (record { objects = gives.objects; out = gives.out });
 }
+
+-- the front waiter's turn was made, where one waits
+abbrev pub RunsFront : {I : Type 0} → Meaning I → WorkerState I → RequestState → WorkerState I → RequestState → List Waiter → Type 0
+RunsFront m w r w' r' [] = Unit {0}
+RunsFront m w r w' r' (x ∷ rest) =
+    (w' ≡ taken_by r.req (m.turn w.isolate (turn_in (turn_generation r w) r x.wake)).isolate rest w)
+    × (r' ≡ runs_turn (turn_generation r w) (m.turn w.isolate (turn_in (turn_generation r w) r x.wake)) r)
 
 -- the state in which the seat runs a turn that was made
 abbrev pub begun_with : {I : Type 0} → State I → Seat → RequestState → ℕ → TurnGives I → List Waiter → State I
@@ -94,24 +115,43 @@ named req obj = record { req = req; obj = obj }
 
 -- the objects of a request that are left when these are freed
 abbrev pub kept_objects : List Obj → List IoObject → List IoObject
-kept_objects freed objects = filter (λ o. not (has_number (numbers freed) o.obj.0)) objects
+kept_objects freed objects = filter (λ o. not (has_obj freed o.obj.0)) objects
 
 -- an operation that has started
 abbrev pub flight_of : OpStart → Flight
 flight_of o = record { op = o.op; target = o.target }
 
 -- the request after a turn of it
-abbrev pub has_turned : List Waiter → Pending → RequestState → RequestState
-has_turned waiters p r = record r {
+abbrev pub has_turned : Bool → Pending → RequestState → RequestState
+has_turned waiting p r = record r {
   left = r.left - spent p.out.ops;
-  flights = if ends r waiters p.out then [] else r.flights ++ map flight_of p.out.ops;
-  live = if ends r waiters p.out then [] else left_live r p.out;
-  objects = if ends r waiters p.out then [] else kept_objects p.out.freed p.objects;
+  flights = if ends r waiting p.out then [] else r.flights ++ map flight_of p.out.ops;
+  live = if ends r waiting p.out then [] else left_live r p.out;
+  objects = if ends r waiting p.out then [] else kept_objects p.out.freed p.objects;
   pending = None;
-  replied = r.replied || is_some (whole_reply r waiters p.out);
+  replied = r.replied || is_some (whole_reply r waiting p.out);
   waits = p.out.waits;
-  ended = ends r waiters p.out;
+  ended = ends r waiting p.out;
 }
+
+-- what a turn has done: the `Out` of its entry, what it freed, and whether the request has ended
+abbrev pub done_by : RequestState → Bool → Out → Done
+done_by r waiting out = record { out = whole_out r waiting out; freed = freed_by r waiting out; ended = ends r waiting out }
+
+-- the row after its turn, if one was pending, and what that has done
+abbrev pub TurnsRow : RequestState → RequestState → Bool → Option Pending → Option Done → Type 0
+TurnsRow before after waiting None done = (done ≡ None) × (after ≡ before)
+TurnsRow before after waiting (Some p) done = (done ≡ Some (done_by before waiting p.out)) × (after ≡ has_turned waiting p before)
+
+-- the `Out` of the entry for a turn that is pending
+abbrev pub entry_out : RequestState → Bool → Option Pending → Option Out
+entry_out r waiting None = None
+entry_out r waiting (Some p) = Some (whole_out r waiting p.out)
+
+-- the `Out` of a request's Turn, where it is there and a turn of it is pending
+abbrev pub turn_out : {I : Type 0} → Option RequestState → Option (WorkerState I) → Option Out
+turn_out None worker = None
+turn_out (Some r) worker = entry_out r (waits_in r.req.0 (waiters_at worker)) r.pending
 
 -- the waiters of the other requests
 abbrev pub waiters_without : ℕ → List Waiter → List Waiter
@@ -122,19 +162,19 @@ abbrev pub given_back : {I : Type 0} → Bool → ℕ → WorkerState I → Work
 given_back ended req w = record w { holder = None; waiters = if ended then waiters_without req w.waiters else w.waiters }
 
 -- the state after a turn that was pending
-abbrev pub turned_with : {I : Type 0} → State I → Seat → RequestState → List Waiter → Pending → State I
-turned_with s seat r waiters p = record s {
-  workers = change (is_worker r.service) (given_back (ends r waiters p.out) r.req.0) s.workers;
-  requests = change (is_request r.req.0) (has_turned waiters p) s.requests;
+abbrev pub turned_with : {I : Type 0} → State I → Seat → RequestState → Bool → Pending → State I
+turned_with s seat r waiting p = record s {
+  workers = change (is_worker r.service) (given_back (ends r waiting p.out) r.req.0) s.workers;
+  requests = change (is_request r.req.0) (has_turned waiting p) s.requests;
   running = filter (λ x. not (x.seat.0 == seat.0)) s.running;
   made = s.made ++ map (named r.req) p.out.made;
-  freed = s.freed ++ map (named r.req) (freed_by r waiters p.out);
+  freed = s.freed ++ map (named r.req) (freed_by r waiting p.out);
 }
 
 -- Turn of a request, if one is pending
 abbrev pub turned_in : {I : Type 0} → State I → Seat → RequestState → Option Pending → State I
 turned_in s seat r None = s
-turned_in s seat r (Some p) = turned_with s seat r (waiters_at (worker_of r.service s.workers)) p
+turned_in s seat r (Some p) = turned_with s seat r (waits_in r.req.0 (waiters_at (worker_of r.service s.workers))) p
 
 -- Turn where the request is looked up
 abbrev pub turned_by : {I : Type 0} → State I → Seat → Option RequestState → State I

@@ -1,3 +1,5 @@
+ghost use Rattle.std.specs.Prelude.{◌≡◌};
+
 use crate::turn::Out;
 use wd_base::{Bytes, Op, OpResult, Origin, Reply, Req, ReqData, Seat, Seq};
 
@@ -46,6 +48,25 @@ pub enum Entry {
     Drain {
         seat: Seat,
     },
+}
+
+impl Entry {
+    ghost use Rattle.wd_machine.specs.Entries.{seat_of};
+
+    /// The seat whose event it is.
+    pub fn seat(&self) -> Seat
+        ensures { result ≡ seat_of self.now }
+    {
+        match self {
+            Entry::Arrive { seat, .. } => *seat,
+            Entry::Begin { seat, .. } => *seat,
+            Entry::Turn { seat, .. } => *seat,
+            Entry::Answer { seat, .. } => *seat,
+            Entry::Served { seat, .. } => *seat,
+            Entry::Cancel { seat, .. } => *seat,
+            Entry::Drain { seat } => *seat,
+        }
+    }
 }
 
 /// The entries of a journal, in order.

@@ -2,17 +2,22 @@
 #![tactic(auto)]
 
 mod apply;
+mod ends;
+mod find;
 mod isolate;
 mod journal;
 mod machine;
 mod refusal;
+mod rules;
 mod state;
+mod steps;
 mod turn;
 
 pub use apply::Core;
+pub use find::Places;
 pub use isolate::Isolate;
 pub use journal::{Entries, Entry, Head, Journal};
-pub use machine::{Machine, Places};
+pub use machine::Machine;
 pub use refusal::{ApplyEnd, Kept, Refused};
 pub use state::{Due, Flight, Pending, RequestState, Run, State, Waiter, Waiters, WorkerState};
 pub use turn::{Out, OutField};

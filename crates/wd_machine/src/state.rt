@@ -1,7 +1,5 @@
 use crate::turn::Out;
-use wd_base::{
-    Bytes, ObjName, ObjNames, Objects, Objs, Op, Origin, Req, Seat, Seq, Wake,
-};
+use wd_base::{Bytes, ObjName, ObjNames, Objects, Objs, Op, Origin, Req, Seat, Seq, Wake};
 
 /// A request that waits for a turn in its Worker's isolate, and what the turn is to take up.
 #[derive(Debug, Drop)]
