@@ -1,0 +1,5 @@
+//! The server from the command line's words to the bytes on its links: the readers of its texts,
+//! and the session over a port.
+#![tactic(auto)]
+
+mod form;
