@@ -94,7 +94,7 @@ fn least(hole: Hole) -> usize
 
 /// How many bytes at the front may stand in the hole.
 #[tactic(auto, using(crate::proofs::FormSteps::run_more))]
-fn run_of(bytes: &[u8], hole: Hole) -> usize
+pub fn run_of(bytes: &[u8], hole: Hole) -> usize
     ensures { IsRun hole bytes.now result }
 {
     let mut count = 0;

@@ -3,3 +3,4 @@
 #![tactic(auto)]
 
 mod form;
+mod http_in;

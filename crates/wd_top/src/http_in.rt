@@ -1,0 +1,4 @@
+//! The requests in the bytes of a link.
+
+mod head;
+mod queue;
