@@ -81,6 +81,16 @@ split_run hole place (b ∷ bs) (b' ∷ bs') after after' g a' o e =
     let r : (bs ≡ bs') × (after ≡ after') = split_run hole (suc place) bs bs' after after' g.1 (both_right _ _ a') o tail in
     (let t : bs ≡ bs' = r.0 in cc, r.1)
 
+pub same_run : (hole : Hole) (place : ℕ) (h h' after after' : List ℕ) → fills hole place h ≡ true → fills hole place h' ≡ true → begins_outside hole after ≡ true → begins_outside hole after' ≡ true → h ++ after ≡ h' ++ after' → (h ≡ h') × (after ≡ after')
+same_run hole place [] [] after after' a a' o o' e = (refl, e)
+same_run hole place [] (b ∷ bs) after after' a a' o o' e = absurd (outside_clash hole place b (bs ++ after') after (both_left _ _ a') o e)
+same_run hole place (b ∷ bs) [] after after' a a' o o' e = absurd (outside_clash hole place b (bs ++ after) after' (both_left _ _ a) o' (sym e))
+same_run hole place (b ∷ bs) (b' ∷ bs') after after' a a' o o' e =
+    let head : b ≡ b' = cc in
+    let tail : bs ++ after ≡ bs' ++ after' = cc in
+    let r : (bs ≡ bs') × (after ≡ after') = same_run hole (suc place) bs bs' after after' (both_right _ _ a) (both_right _ _ a') o o' tail in
+    (let t : bs ≡ bs' = r.0 in cc, r.1)
+
 -- a hole that goes on is at least as long
 pub covers_run : (hole : Hole) (place : ℕ) (h h' more after : List ℕ) → fills hole place h ≡ true → begins_outside hole after ≡ true → h ++ more ≡ h' ++ after → length h ≤ length h'
 covers_run hole place [] h' more after a o e = omega arith
@@ -111,6 +121,25 @@ greedy_more hole place (b ∷ bs) after more g = (g.0, greedy_more hole (suc pla
 pub greedy_fills : (hole : Hole) (place : ℕ) (h after : List ℕ) → IsGreedy hole place h after → fills hole place h ≡ true
 greedy_fills hole place [] after g = refl
 greedy_fills hole place (b ∷ bs) after g = both _ _ g.0 (greedy_fills hole (suc place) bs after g.1)
+
+-- the run at the front of bytes that begin with a whole hole is that hole
+pub run_exact : (hole : Hole) (bs : List ℕ) (n : ℕ) (h after : List ℕ) → IsRun hole bs n → bs ≡ h ++ after → fills hole 0 h ≡ true → begins_outside hole after ≡ true → (n ≡ length h) × (take n bs ≡ h)
+run_exact hole bs n h after run e inn out =
+    let within : n ≤ length bs = run.within in
+    let front : length (take n bs) ≡ n = length-take-le n bs within in
+    let parts : take n bs ++ drop n bs ≡ h ++ after = take-append-drop n bs ∙ e in
+    let most : length (take n bs) ≤ length h = covers_run hole 0 (take n bs) h (drop n bs) after run.inside out parts in
+    let some : 0 < length after = some_outside hole after out in
+    let sum : length bs ≡ length h + length after = ap length e ∙ length-append h after in
+    let lt : n < length bs = omega arith in
+    let at : n ≡ 0 + n = omega arith in
+    let greedy = greedy_from hole 0 bs n lt run.inside (subst (λ k. allows hole k (get_or bs n 0) ≡ false) at (run.stops lt)) in
+    let s = split_run hole 0 (take n bs) h (drop n bs) after greedy inn out parts in
+    (sym front ∙ ap length s.0, s.0)
+  where
+    some_outside : (hole : Hole) (text : List ℕ) → begins_outside hole text ≡ true → 0 < length text
+    some_outside hole [] e = absurd (false≢true e)
+    some_outside hole (b ∷ bs) e = omega arith
 
 -- what the run in the bytes behind the text says
 pub record RunAt (g : Gap) (bytes : List ℕ) (n : ℕ) : Type 0 where

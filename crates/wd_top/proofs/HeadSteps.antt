@@ -73,7 +73,7 @@ pub bounded_never : (form : List Gap) (bytes : List ℕ) → Finds form head_end
 bounded_never form bytes f m = f (drop max_head bytes ++ m.more) m.has.holes m.has.rest (subst (λ t. ReadsForm form head_end m.has.holes t m.has.rest) (sym (halves_more bytes m.more)) m.has.reads)
 
 -- a head's text, with what follows it
-text_rest : (t v rest : List ℕ) → (codes "GET /" ++ (t ++ (host_label ++ (v ++ head_end)))) ++ rest ≡ codes "GET /" ++ (t ++ (host_label ++ (v ++ (head_end ++ rest))))
+pub text_rest : (t v rest : List ℕ) → (codes "GET /" ++ (t ++ (host_label ++ (v ++ head_end)))) ++ rest ≡ codes "GET /" ++ (t ++ (host_label ++ (v ++ (head_end ++ rest))))
 text_rest t v rest = append_assoc (codes "GET /") _ rest ∙ ap (λ x. codes "GET /" ++ x) (append_assoc t _ rest ∙ ap (λ x. t ++ x) (append_assoc host_label _ rest ∙ ap (λ x. host_label ++ x) (append_assoc v head_end rest)))
 
 pub plain_head : (bytes rest : List ℕ) (holes : List (List ℕ)) → ReadsForm plain_form head_end holes bytes rest → length bytes ≤ max_head + length rest → (h : Head) × ReadsHead bytes h rest

@@ -1,2 +1,4 @@
 pub mod FormSteps
 pub mod HeadSteps
+pub mod HeadUnique
+pub mod StreamSteps

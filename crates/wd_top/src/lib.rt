@@ -4,3 +4,4 @@
 
 mod form;
 mod http_in;
+mod http_text;
