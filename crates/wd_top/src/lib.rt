@@ -2,6 +2,9 @@
 //! and the session over a port.
 #![tactic(auto)]
 
+mod command;
+mod config;
 mod form;
 mod http_in;
 mod http_text;
+mod script;
