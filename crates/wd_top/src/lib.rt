@@ -8,3 +8,5 @@ mod form;
 mod http_in;
 mod http_text;
 mod script;
+#[cfg(test)]
+mod tests;
