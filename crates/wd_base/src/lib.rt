@@ -8,6 +8,8 @@ mod http;
 mod ids;
 mod objects;
 mod seq;
+#[cfg(test)]
+mod tests;
 mod text;
 
 pub use config::{

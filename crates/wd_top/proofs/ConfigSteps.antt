@@ -1,15 +1,14 @@
 -- Configuration files of the base form.
-use Rattle.std.proofs.Common.{◌≡◌, ◌≢◌, ℕ, zero, suc, ◌+◌, ◌<◌, ◌≤◌, List, [], ◌∷◌, ◌++◌, length, get_or, refl, ap, ap₂, sym, ◌∙◌, subst, arith, true, Option, Some, None}
+use Rattle.std.proofs.Common.{◌≡◌, ℕ, zero, suc, ◌<◌, ◌≤◌, List, [], ◌∷◌, length, get_or, refl, ap, sym, ◌∙◌, subst, arith, Option, Some, None}
 use Rattle.std.specs.Prelude.{codes, decimal, Result, Ok, Err, IsUtf8, IfOk}
 use Rattle.std.specs.Str.Parse.{ParsesUnsigned}
 use Rattle.std.proofs.lemmas.Fmt.{parse-decimal, IsAscii-decimal, decimal_injective}
 use Rattle.std.proofs.lemmas.Str.{IsUtf8-from_ascii}
 use Rattle.std.proofs.lemmas.List.{append_cancel_left}
 use Rattle.wd_base.specs.declared.ids.NoMemory.{NoMemory}
-use Rattle.wd_base.specs.declared.config.Addr.{Addr}
 use Rattle.wd_top.specs.declared.config.BaseConfig.{BaseConfig}
 use Rattle.wd_top.specs.Form.{ReadsForm, IsFilled}
-use Rattle.wd_top.specs.Config.{config_form, config_end, ConfigTexts, texts_in, Says, IsBaseConfig, ConfigOf, TextsSay, PortOf, AddressPort}
+use Rattle.wd_top.specs.Config.{config_form, config_end, ConfigTexts, texts_in, Says, ConfigOf, TextsSay, PortOf}
 use Rattle.wd_top.proofs.FormSteps.{form_unique, holes_size}
 
 -- the texts in a list of seven
@@ -59,12 +58,12 @@ said_step bytes found hs list s k a t p d filled is same e0 e1 e2 e3 e5 e6 (Ok c
     let size : length list ≡ 7 = holes_size config_form config_end list bytes [] reads in
     let shown : list ≡ texts_in (texts_at list) = seven list size in
     said_config bytes (texts_at list) c (subst (λ l. ReadsForm config_form config_end l bytes []) shown reads)
-      (subst (λ u. TextsSay u c) (agree s k a t (get_or list 4 []) p d list
-        (item list 0 s (omega (arith, size)) e0) (item list 1 k (omega (arith, size)) e1) (item list 2 a (omega (arith, size)) e2) (item list 3 t (omega (arith, size)) e3) (item list 5 p (omega (arith, size)) e5) (item list 6 d (omega (arith, size)) e6))
-        (said (get_or list 4 [])))
+    (subst (λ u. TextsSay u c) (agree s k a t (get_or list 4 []) p d list
+    (item list 0 s (omega (arith, size)) e0) (item list 1 k (omega (arith, size)) e1) (item list 2 a (omega (arith, size)) e2) (item list 3 t (omega (arith, size)) e3) (item list 5 p (omega (arith, size)) e5) (item list 6 d (omega (arith, size)) e6))
+    (said (get_or list 4 [])))
   where
     agree : (s k a t w p d : List ℕ) (l : List (List ℕ)) → s ≡ get_or l 0 [] → k ≡ get_or l 1 [] → a ≡ get_or l 2 [] → t ≡ get_or l 3 [] → p ≡ get_or l 5 [] → d ≡ get_or l 6 []
-      → ◌≡◌ {A = ConfigTexts} (record { service = s; socket = k; address = a; target = t; worker = get_or l 4 []; path = p; date = d }) (texts_at l)
+        → ◌≡◌ {A = ConfigTexts} (record { service = s; socket = k; address = a; target = t; worker = get_or l 4 []; path = p; date = d }) (texts_at l)
     agree s k a t w p d l e0 e1 e2 e3 e5 e6 = rw e0 (rw e1 (rw e2 (rw e3 (rw e5 (rw e6 refl)))))
 
 -- one configuration alone
@@ -80,7 +79,7 @@ config_unique bytes c c' x y =
   where
     all : (a a' b b' h h' : List ℕ) (n n' : ℕ) (p p' : List ℕ) → a ≡ a' → b ≡ b' → h ≡ h' → n ≡ n' → p ≡ p' → ◌≡◌ {A = BaseConfig} (record { service = a; socket = b; address = record { host = h; port = n }; path = p }) (record { service = a'; socket = b'; address = record { host = h'; port = n' }; path = p' })
     all a a' b b' h h' n n' p p' e f g i j =
-      rw e (rw f (rw g (rw i (rw j refl))))
+        rw e (rw f (rw g (rw i (rw j refl))))
 
 -- ports
 pub no_port_utf8 : (bytes : List ℕ) → (IsUtf8 bytes → ⊥) → PortOf bytes None

@@ -1,7 +1,6 @@
 -- Reading a form, part by part.
-use Rattle.std.proofs.Common.{◌≡◌, ◌≢◌, ℕ, zero, suc, ◌+◌, ◌-◌, ◌<◌, ◌≤◌, List, [], ◌∷◌, ◌++◌, length, take, drop, get_or, refl, ap, ap₂, sym, ◌∙◌, subst, arith, Bool, true, false, ◌&&◌, ◌||◌, not, ◌⊎◌, inl, inr, append_assoc, append-nil, length-append, length-drop, eq-eqb, nat_eq}
-use Rattle.std.specs.Prelude.{nat_lt, max, Result, Ok, Err, IfOk, map}
-use Rattle.std.specs.Char.{is_ascii_digit, is_ascii_lowercase}
+use Rattle.std.proofs.Common.{◌≡◌, ◌≢◌, ℕ, zero, suc, ◌+◌, ◌-◌, ◌<◌, ◌≤◌, List, [], ◌∷◌, ◌++◌, length, take, drop, get_or, refl, ap, ap₂, sym, ◌∙◌, subst, arith, Bool, true, false, ◌&&◌, not, inl, inr, append_assoc, append-nil, length-append, length-drop, eq-eqb, nat_eq}
+use Rattle.std.specs.Prelude.{max, Result, Ok, Err, IfOk, map}
 use Rattle.std.specs.Cmp.Lexicographic.{pointwise, same_text}
 use Rattle.std.proofs.lemmas.List.{take-append-le, take-append-drop, append_cancel_left, take_all, length-take-le}
 use Rattle.std.proofs.Math.Seq.{take-append_seam, drop-append-add}
@@ -13,7 +12,7 @@ use Rattle.wd_top.specs.declared.form.Hole.TheVariants.{Word, Host, Port, Plain,
 use Rattle.wd_top.specs.declared.form.Next.TheVariants as next
 use Rattle.wd_top.specs.declared.form.Found.{Found}
 use Rattle.wd_top.specs.declared.form.Found.TheVariants as found
-use Rattle.wd_top.specs.Form.{gap_of, in_hole, allows, fills, least, IsIn, Gap, ReadsForm, begins_outside, first_text, is_separated, least_size, IsRun, Stops, IsGreedy, IsGapAt, EndsWithin, IsNext, Completes, Finds, FillsBehind}
+use Rattle.wd_top.specs.Form.{gap_of, in_hole, allows, fills, least, IsIn, Gap, ReadsForm, begins_outside, is_separated, least_size, IsRun, Stops, IsGreedy, IsGapAt, EndsWithin, IsNext, Finds, FillsBehind}
 
 -- both halves of a conjunction
 pub both_left : (a b : Bool) → (a && b) ≡ true → a ≡ true
@@ -36,7 +35,7 @@ run_from hole place (b ∷ bs) (suc n) h here all =
     let at : place + suc n ≡ suc place + n = omega arith in
     let e : suc (n + 1) ≡ suc n + 1 = omega arith in
     subst (λ k. fills hole place (take k (b ∷ bs)) ≡ true) e (both (allows hole place b) _ (both_left _ _ all)
-      (run_from hole (suc place) bs n (omega arith) (subst (λ k. allows hole k (get_or bs n 0) ≡ true) at here) (both_right _ _ all)))
+    (run_from hole (suc place) bs n (omega arith) (subst (λ k. allows hole k (get_or bs n 0) ≡ true) at here) (both_right _ _ all)))
 
 pub run_more : (hole : Hole) (bs : List ℕ) (n : ℕ) → n < length bs → allows hole n (get_or bs n 0) ≡ true → fills hole 0 (take n bs) ≡ true → fills hole 0 (take (n + 1) bs) ≡ true
 run_more hole bs n h here all = let at : n ≡ 0 + n = omega arith in run_from hole 0 bs n h (subst (λ k. allows hole k (get_or bs n 0) ≡ true) at here) all
@@ -181,7 +180,7 @@ next_at g bytes n r ne some =
 pub next_other : (g : Gap) (bytes : List ℕ) (n : ℕ) → RunAt g bytes n → n ≢ length (take (length bytes - length g.text) (drop (length g.text) bytes)) → n < least g.hole → IsNext g bytes next.Other
 next_other g bytes n r ne few more h after inn out e =
     let e2 : take n (drop (length g.text) bytes) ++ (drop n (drop (length g.text) bytes) ++ more) ≡ h ++ after =
-      append_cancel_left g.text _ _ (ap (λ t. g.text ++ t) (sym (append_assoc _ _ more)) ∙ sym (append_assoc g.text _ more) ∙ ap (λ t. t ++ more) (sym (shown_at g bytes n r)) ∙ e) in
+    append_cancel_left g.text _ _ (ap (λ t. g.text ++ t) (sym (append_assoc _ _ more)) ∙ sym (append_assoc g.text _ more) ∙ ap (λ t. t ++ more) (sym (shown_at g bytes n r)) ∙ e) in
     let s = split_run g.hole 0 _ h _ after (greedy_more g.hole 0 _ _ more (greedy_at g bytes n r ne)) inn.0 out e2 in
     let len : length (take n (drop (length g.text) bytes)) ≡ n = length_at g bytes n r in
     let same : length (take n (drop (length g.text) bytes)) ≡ length h = ap length s.0 in
@@ -236,10 +235,12 @@ peel g gs end bytes k more (h ∷ hs) rest sep a (b, inn, e, r) =
     record { others = hs; first = ap (λ t. t ∷ hs) (sym s.0); reads = subst (λ t. ReadsForm gs end hs t rest) (sym s.1 ∙ ap (λ t. t ++ more) (sym (gap_drop g bytes k a))) r }
 
 put_back : (g : Gap) (gs : List Gap) (end bytes : List ℕ) (k : ℕ) (more : List ℕ) (holes : List (List ℕ)) (rest : List ℕ) → (a : IsGapAt g bytes k) → ReadsForm gs end holes (drop k bytes ++ more) rest → ReadsForm (g ∷ gs) end (a.held ∷ holes) (bytes ++ more) rest
-put_back g gs end bytes k more holes rest a r =
-    (a.after ++ more, (greedy_fills g.hole 0 a.held a.after a.greedy, a.some),
-     ap (λ t. t ++ more) a.shown ∙ append_assoc g.text (a.held ++ a.after) more ∙ ap (λ t. g.text ++ t) (append_assoc a.held a.after more),
-     subst (λ t. ReadsForm gs end holes (t ++ more) rest) (gap_drop g bytes k a) r)
+put_back g gs end bytes k more holes rest a r = (
+  a.after ++ more,
+  (greedy_fills g.hole 0 a.held a.after a.greedy, a.some),
+  ap (λ t. t ++ more) a.shown ∙ append_assoc g.text (a.held ++ a.after) more ∙ ap (λ t. g.text ++ t) (append_assoc a.held a.after more),
+  subst (λ t. ReadsForm gs end holes (t ++ more) rest) (gap_drop g bytes k a) r,
+)
 
 pub found_at : (g : Gap) (gs : List Gap) (end bytes : List ℕ) (k n : ℕ) → IsGapAt g bytes k → Finds gs end (drop k bytes) (found.At n) → Finds (g ∷ gs) end bytes (found.At (k + n))
 found_at g gs end bytes k n a (within, read) =
@@ -261,16 +262,18 @@ found_later g gs end bytes k size sep a (short, bound, done, most) =
     let short' : length a.after < size = subst (λ t. length t < size) left short in
     let bound' : size ≤ length a.after + least_size gs end = subst (λ t. size ≤ length t + least_size gs end) left bound in
     let long : length (a.after ++ done.more) ≡ size = ap (λ t. length (t ++ done.more)) (sym left) ∙ done.long in
-    let sum : length (a.after ++ done.more) ≡ length a.after + length done.more = length-append a.after done.more in
-    (omega arith, omega arith,
-     record { more = done.more; holes = a.held ∷ done.holes; reads = put_back g gs end bytes k done.more done.holes [] a done.reads; long = length-append bytes done.more ∙ omega arith },
-     λ more holes rest r.
-       let p = peel g gs end bytes k more holes rest sep a r in
-       let m : size + length rest ≤ length (drop k bytes ++ more) = most more p.others rest p.reads in
-       let m' : size + length rest ≤ length (a.after ++ more) = subst (λ t. size + length rest ≤ length (t ++ more)) left m in
-       let sum' : length (a.after ++ more) ≡ length a.after + length more = length-append a.after more in
-       let sum'' : length (bytes ++ more) ≡ length bytes + length more = length-append bytes more in
-       omega arith)
+    let sum : length (a.after ++ done.more) ≡ length a.after + length done.more = length-append a.after done.more in (
+      omega arith,
+      omega arith,
+      record { more = done.more; holes = a.held ∷ done.holes; reads = put_back g gs end bytes k done.more done.holes [] a done.reads; long = length-append bytes done.more ∙ omega arith },
+      λ more holes rest r.
+          let p = peel g gs end bytes k more holes rest sep a r in
+          let m : size + length rest ≤ length (drop k bytes ++ more) = most more p.others rest p.reads in
+          let m' : size + length rest ≤ length (a.after ++ more) = subst (λ t. size + length rest ≤ length (t ++ more)) left m in
+          let sum' : length (a.after ++ more) ≡ length a.after + length more = length-append a.after more in
+          let sum'' : length (bytes ++ more) ≡ length bytes + length more = length-append bytes more in
+          omega arith,
+    )
 
 pub other_never : (g : Gap) (gs : List Gap) (end bytes : List ℕ) → is_separated (g ∷ gs) end ≡ true → IsNext g bytes next.Other → Finds (g ∷ gs) end bytes found.Never
 other_never g gs end bytes sep other more [] rest r = absurd r
@@ -281,13 +284,16 @@ slice_finds gs end bytes k r f = subst (λ t. Finds gs end t r) (rest_of k bytes
 
 -- the end's text
 pub end_short : (end bytes : List ℕ) → length bytes < length end → take (length bytes) end ≡ bytes → Finds [] end bytes (found.Later (length end))
-end_short end bytes short e =
-    (short, omega arith,
-     record { more = drop (length bytes) end; holes = []; reads = whole ∙ sym (append-nil end); long = ap length whole },
-     most)
+end_short end bytes short e = (
+  short,
+  omega arith,
+  record { more = drop (length bytes) end; holes = []; reads = whole ∙ sym (append-nil end); long = ap length whole },
+  most,
+)
   where
     whole : bytes ++ drop (length bytes) end ≡ end
     whole = ap (λ t. t ++ drop (length bytes) end) (sym e) ∙ take-append-drop (length bytes) end
+
     most : (more : List ℕ) (holes : List (List ℕ)) (rest : List ℕ) → ReadsForm [] end holes (bytes ++ more) rest → length end + length rest ≤ length (bytes ++ more)
     most more [] rest r = let l = ap length r in let s = length-append end rest in omega arith
     most more (h ∷ hs) rest r = absurd r
@@ -383,29 +389,35 @@ short_later g gs end bytes sep (inl short) =
     let lt : length bytes < length g.text = short.0 in
     let size : max (length bytes) (length g.text + least g.hole) ≡ length g.text + least g.hole = omega arith in
     let whole : bytes ++ (drop (length bytes) g.text ++ (sample g.hole ++ shortest gs end)) ≡ shortest (g ∷ gs) end =
-      sym (append_assoc bytes _ _) ∙ ap (λ t. t ++ (sample g.hole ++ shortest gs end)) (ap (λ t. t ++ drop (length bytes) g.text) (sym short.1) ∙ take-append-drop (length bytes) g.text) in
-    (omega arith, omega arith,
-     record { more = drop (length bytes) g.text ++ (sample g.hole ++ shortest gs end); holes = samples (g ∷ gs); reads = subst (λ t. ReadsForm (g ∷ gs) end (samples (g ∷ gs)) t []) (sym whole) (shortest_reads (g ∷ gs) end); long = ap length whole ∙ shortest_size (g ∷ gs) end ∙ omega arith },
-     λ more holes rest r. let m = least_reads (g ∷ gs) end holes (bytes ++ more) rest r in omega arith)
+    sym (append_assoc bytes _ _) ∙ ap (λ t. t ++ (sample g.hole ++ shortest gs end)) (ap (λ t. t ++ drop (length bytes) g.text) (sym short.1) ∙ take-append-drop (length bytes) g.text) in (
+      omega arith,
+      omega arith,
+      record { more = drop (length bytes) g.text ++ (sample g.hole ++ shortest gs end); holes = samples (g ∷ gs); reads = subst (λ t. ReadsForm (g ∷ gs) end (samples (g ∷ gs)) t []) (sym whole) (shortest_reads (g ∷ gs) end); long = ap length whole ∙ shortest_size (g ∷ gs) end ∙ omega arith },
+      λ more holes rest r. let m = least_reads (g ∷ gs) end holes (bytes ++ more) rest r in omega arith,
+    )
 short_later g gs end bytes sep (inr within) =
     let h = within.0 in
     let len : length bytes ≡ length g.text + length h = ap length within.2 ∙ length-append g.text h in
     let filled : length (h ++ missing g.hole h) ≡ max (length h) (least g.hole) = missing_size g.hole h in
     let whole : bytes ++ (missing g.hole h ++ shortest gs end) ≡ g.text ++ ((h ++ missing g.hole h) ++ shortest gs end) =
-      ap (λ t. t ++ (missing g.hole h ++ shortest gs end)) within.2 ∙ append_assoc g.text h _ ∙ ap (λ t. g.text ++ t) (sym (append_assoc h _ _)) in
+    ap (λ t. t ++ (missing g.hole h ++ shortest gs end)) within.2 ∙ append_assoc g.text h _ ∙ ap (λ t. g.text ++ t) (sym (append_assoc h _ _)) in
     let size : length (bytes ++ (missing g.hole h ++ shortest gs end)) ≡ length g.text + (length (h ++ missing g.hole h) + least_size gs end) =
-      ap length whole ∙ length-append g.text _ ∙ ap (λ n. length g.text + n) (length-append (h ++ missing g.hole h) _ ∙ ap (λ n. length (h ++ missing g.hole h) + n) (shortest_size gs end)) in
-    let behind : 0 < least_size gs end = some_behind g gs end sep in
-    (omega arith, omega arith,
-     record { more = missing g.hole h ++ shortest gs end; holes = (h ++ missing g.hole h) ∷ samples gs; reads = (shortest gs end, missing_in g.hole h within.1, whole, shortest_reads gs end); long = size ∙ omega arith },
-     λ more holes rest r. most h within.1 within.2 len more holes rest r)
+    ap length whole ∙ length-append g.text _ ∙ ap (λ n. length g.text + n) (length-append (h ++ missing g.hole h) _ ∙ ap (λ n. length (h ++ missing g.hole h) + n) (shortest_size gs end)) in
+    let behind : 0 < least_size gs end = some_behind g gs end sep in (
+      omega arith,
+      omega arith,
+      record { more = missing g.hole h ++ shortest gs end; holes = (h ++ missing g.hole h) ∷ samples gs; reads = (shortest gs end, missing_in g.hole h within.1, whole, shortest_reads gs end); long = size ∙ omega arith },
+      λ more holes rest r. most h within.1 within.2 len more holes rest r,
+    )
   where
     some_text : (hole : Hole) (text : List ℕ) → begins_outside hole text ≡ true → 0 < length text
     some_text hole [] e = absurd (false≢true e)
     some_text hole (b ∷ bs) e = omega arith
+
     some_behind : (g : Gap) (gs : List Gap) (end : List ℕ) → is_separated (g ∷ gs) end ≡ true → 0 < least_size gs end
     some_behind g [] end sep = some_text g.hole end (both_left _ _ sep)
     some_behind g (q ∷ gs) end sep = let s = some_text g.hole q.text (both_left _ _ sep) in omega arith
+
     most : (h : List ℕ) → fills g.hole 0 h ≡ true → bytes ≡ g.text ++ h → length bytes ≡ length g.text + length h → (more : List ℕ) (holes : List (List ℕ)) (rest : List ℕ) → ReadsForm (g ∷ gs) end holes (bytes ++ more) rest → (max (length bytes) (length g.text + least g.hole) + least_size gs end) + length rest ≤ length (bytes ++ more)
     most h inn is len more [] rest r = absurd r
     most h inn is len more (h' ∷ hs) rest (after, inn', e, r) =
@@ -446,10 +458,11 @@ fills_at g gs end bytes k false old mid new sep a e f = λ holes r.
 fills_at g gs end bytes k true old mid new sep a e f =
     let holes : List (List ℕ) = f.0 in
     let r : ReadsForm gs end holes (drop k bytes) [] = subst (λ t. ReadsForm gs end holes t []) (rest_of k bytes) f.2 in
-    let back : ReadsForm (g ∷ gs) end (a.held ∷ holes) (bytes ++ []) [] = put_back g gs end bytes k [] holes [] a (whole_read gs end holes (drop k bytes) r) in
-    (a.held ∷ holes,
-     f.1 ∙ ap (λ t. t ++ holes) e ∙ append_assoc old _ holes ∙ ap (λ t. old ++ (t ∷ holes)) (held_of g bytes k a),
-     subst (λ t. ReadsForm (g ∷ gs) end (a.held ∷ holes) t []) (append-nil bytes) back)
+    let back : ReadsForm (g ∷ gs) end (a.held ∷ holes) (bytes ++ []) [] = put_back g gs end bytes k [] holes [] a (whole_read gs end holes (drop k bytes) r) in (
+      a.held ∷ holes,
+      f.1 ∙ ap (λ t. t ++ holes) e ∙ append_assoc old _ holes ∙ ap (λ t. old ++ (t ∷ holes)) (held_of g bytes k a),
+      subst (λ t. ReadsForm (g ∷ gs) end (a.held ∷ holes) t []) (append-nil bytes) back,
+    )
 
 pub fills_end : (end bytes : List ℕ) (whole : Bool) (old : List (List ℕ)) → whole ≡ pointwise nat_eq bytes end → FillsBehind [] end bytes whole old old
 fills_end end bytes true old e = ([], sym (append-nil old), same_text bytes end e ∙ sym (append-nil end))

@@ -1,13 +1,13 @@
 -- Heads as forms.
-use Rattle.std.proofs.Common.{◌≡◌, ℕ, ◌+◌, ◌-◌, ◌<◌, ◌≤◌, List, [], ◌∷◌, ◌++◌, length, take, drop, refl, ap, ap₂, sym, ◌∙◌, subst, arith, true, Option, Some, None, append_assoc, append-nil, length-append, length-drop, ◌⊎◌, inl, inr, zero, suc}
+use Rattle.std.proofs.Common.{◌≡◌, ℕ, ◌+◌, ◌<◌, ◌≤◌, List, [], ◌∷◌, ◌++◌, length, take, drop, refl, ap, sym, ◌∙◌, subst, arith, Option, Some, None, append_assoc, append-nil, length-append, length-drop, ◌⊎◌, inl, inr, zero, suc}
 use Rattle.std.specs.Prelude.{codes, IfSome}
-use Rattle.std.proofs.lemmas.List.{take-append-drop, take_all, length-take-le}
+use Rattle.std.proofs.lemmas.List.{take-append-drop, length-take-le}
 use Rattle.wd_top.specs.declared.form.Hole.TheVariants as hole
 use Rattle.wd_top.specs.declared.form.Found.TheVariants as found
 use Rattle.wd_top.specs.declared.http_in.head.HeadAt.{HeadAt}
 use Rattle.wd_top.specs.declared.http_in.head.HeadAt.TheVariants as at
 use Rattle.wd_top.specs.Form.{IsIn, Gap, ReadsForm, Finds}
-use Rattle.wd_top.specs.Head.{Head, max_head, head_end, host_label, authority, host_value, head_text, IsHead, ReadsHead, HasHead, MayBecomeHead, plain_form, ported_form, HasBounded, MayBecomeBounded, IsBoundedAt, IsBounded, IsHeadAt}
+use Rattle.wd_top.specs.Head.{Head, max_head, head_end, host_label, head_text, ReadsHead, HasHead, plain_form, ported_form, HasBounded, IsBounded, IsHeadAt}
 use Rattle.wd_top.proofs.FormSteps.{drop_seam}
 
 pub drop_join : (n : ℕ) (a b : List ℕ) → n ≤ length a → drop n (a ++ b) ≡ drop n a ++ b
@@ -47,24 +47,25 @@ bounded_at form bytes n f =
       within = omega arith;
       small = omega arith;
       reads = subst (λ t. ReadsForm form head_end f.1.0 t (drop n t)) (halves bytes)
-        (subst (ReadsForm form head_end f.1.0 (take max_head bytes ++ drop max_head bytes)) (sym (drop_join n (take max_head bytes) (drop max_head bytes) within))
+          (subst (ReadsForm form head_end f.1.0 (take max_head bytes ++ drop max_head bytes)) (sym (drop_join n (take max_head bytes) (drop max_head bytes) within))
           (form_more form head_end f.1.0 _ _ (drop max_head bytes) f.1.1));
     }
 
 pub bounded_later : (form : List Gap) (bytes : List ℕ) (size : ℕ) → Finds form head_end (take max_head bytes) (found.Later size) → size ≤ max_head → IsBounded form bytes at.Later
 bounded_later form bytes size f0 small =
     let all : take max_head bytes ≡ bytes = short_first max_head bytes (let s = f0.0 in omega arith) in
-    let f : Finds form head_end bytes (found.Later size) = subst (λ t. Finds form head_end t (found.Later size)) all f0 in
-    (λ h. let m : size + length h.rest ≤ length (bytes ++ []) = f.3 [] h.holes h.rest (subst (λ t. ReadsForm form head_end h.holes t h.rest) (sym (append-nil bytes)) h.reads) in
+    let f : Finds form head_end bytes (found.Later size) = subst (λ t. Finds form head_end t (found.Later size)) all f0 in (
+      λ h. let m : size + length h.rest ≤ length (bytes ++ []) = f.3 [] h.holes h.rest (subst (λ t. ReadsForm form head_end h.holes t h.rest) (sym (append-nil bytes)) h.reads) in
           let e : length (bytes ++ []) ≡ length bytes = ap length (append-nil bytes) in
           let s : length bytes < size = f.0 in absurd (omega arith),
-     record { more = f.2.more; has = record { holes = f.2.holes; rest = []; reads = f.2.reads; size = let l : length (bytes ++ f.2.more) ≡ size = f.2.long in omega arith } })
+      record { more = f.2.more; has = record { holes = f.2.holes; rest = []; reads = f.2.reads; size = let l : length (bytes ++ f.2.more) ≡ size = f.2.long in omega arith } },
+    )
 
 pub bounded_large : (form : List Gap) (bytes : List ℕ) (size : ℕ) → Finds form head_end (take max_head bytes) (found.Later size) → max_head < size → IsBounded form bytes at.Bad
 bounded_large form bytes size f large m =
     let h = m.has in
     let least : size + length h.rest ≤ length (take max_head bytes ++ (drop max_head bytes ++ m.more)) =
-      f.3 (drop max_head bytes ++ m.more) h.holes h.rest (subst (λ t. ReadsForm form head_end h.holes t h.rest) (sym (halves_more bytes m.more)) h.reads) in
+    f.3 (drop max_head bytes ++ m.more) h.holes h.rest (subst (λ t. ReadsForm form head_end h.holes t h.rest) (sym (halves_more bytes m.more)) h.reads) in
     let e : length (take max_head bytes ++ (drop max_head bytes ++ m.more)) ≡ length (bytes ++ m.more) = ap length (halves_more bytes m.more) in
     let most : length (bytes ++ m.more) ≤ max_head + length h.rest = h.size in
     absurd (omega arith)
@@ -82,7 +83,7 @@ plain_head bytes rest (t ∷ []) (a, inn, e, r) size = absurd r
 plain_head bytes rest (t ∷ h ∷ x ∷ hs) (a, inn, e, (b, inn', e', r)) size = absurd r
 plain_head bytes rest (t ∷ h ∷ []) (a, inn, e, (b, inn', e', r)) size =
     let whole : bytes ≡ head_text (record { target = t; host = h; port = None }) ++ rest =
-      e ∙ ap (λ x. codes "GET /" ++ (t ++ x)) (e' ∙ ap (λ x. host_label ++ (h ++ x)) r) ∙ sym (text_rest t h rest) in
+    e ∙ ap (λ x. codes "GET /" ++ (t ++ x)) (e' ∙ ap (λ x. host_label ++ (h ++ x)) r) ∙ sym (text_rest t h rest) in
     let sum : length bytes ≡ length (head_text (record { target = t; host = h; port = None })) + length rest = ap length whole ∙ length-append (head_text (record { target = t; host = h; port = None })) rest in
     (record { target = t; host = h; port = None }, (record { target = inn; host = inn'; port = tt; size = omega arith }, whole))
 
@@ -93,7 +94,7 @@ ported_head bytes rest (t ∷ h ∷ []) (a, inn, e, (b, inn', e', r)) size = abs
 ported_head bytes rest (t ∷ h ∷ p ∷ x ∷ hs) (a, inn, e, (b, inn', e', (c, inn'', e'', r))) size = absurd r
 ported_head bytes rest (t ∷ h ∷ p ∷ []) (a, inn, e, (b, inn', e', (c, inn'', e'', r))) size =
     let whole : bytes ≡ head_text (record { target = t; host = h; port = Some p }) ++ rest =
-      e ∙ ap (λ x. codes "GET /" ++ (t ++ x)) (e' ∙ ap (λ x. host_label ++ x) (ap (λ x. h ++ x) (e'' ∙ ap (λ x. 58 ∷ (p ++ x)) r) ∙ sym (append_assoc h (58 ∷ p) (head_end ++ rest)))) ∙ sym (text_rest t (h ++ 58 ∷ p) rest) in
+    e ∙ ap (λ x. codes "GET /" ++ (t ++ x)) (e' ∙ ap (λ x. host_label ++ x) (ap (λ x. h ++ x) (e'' ∙ ap (λ x. 58 ∷ (p ++ x)) r) ∙ sym (append_assoc h (58 ∷ p) (head_end ++ rest)))) ∙ sym (text_rest t (h ++ 58 ∷ p) rest) in
     let sum : length bytes ≡ length (head_text (record { target = t; host = h; port = Some p })) + length rest = ap length whole ∙ length-append (head_text (record { target = t; host = h; port = Some p })) rest in
     (record { target = t; host = h; port = Some p }, (record { target = inn; host = inn'; port = inn''; size = omega arith }, whole))
 
@@ -104,12 +105,20 @@ either_form bytes has = by_port has.head.target has.head.host has.head.port has.
     by_port : (t h : List ℕ) (port : Option (List ℕ)) (rest : List ℕ) → IsIn hole.Word t → IsIn hole.Host h → IfSome port (IsIn hole.Port) → length (head_text (record { target = t; host = h; port = port })) ≤ max_head → bytes ≡ head_text (record { target = t; host = h; port = port }) ++ rest → HasBounded plain_form bytes ⊎ HasBounded ported_form bytes
     by_port t h None rest inn inn' inn'' size e =
         let sum : length bytes ≡ length (head_text (record { target = t; host = h; port = None })) + length rest = ap length e ∙ length-append (head_text (record { target = t; host = h; port = None })) rest in
-        inl (record { holes = t ∷ h ∷ []; rest = rest; size = omega arith;
-          reads = (host_label ++ (h ++ (head_end ++ rest)), inn, e ∙ text_rest t h rest, (head_end ++ rest, inn', refl, refl)) })
+        inl (record {
+          holes = t ∷ h ∷ [];
+          rest = rest;
+          size = omega arith;
+          reads = (host_label ++ (h ++ (head_end ++ rest)), inn, e ∙ text_rest t h rest, (head_end ++ rest, inn', refl, refl));
+        })
     by_port t h (Some p) rest inn inn' inn'' size e =
         let sum : length bytes ≡ length (head_text (record { target = t; host = h; port = Some p })) + length rest = ap length e ∙ length-append (head_text (record { target = t; host = h; port = Some p })) rest in
-        inr (record { holes = t ∷ h ∷ p ∷ []; rest = rest; size = omega arith;
-          reads = (host_label ++ (h ++ (58 ∷ (p ++ (head_end ++ rest)))), inn, e ∙ text_rest t (h ++ 58 ∷ p) rest ∙ ap (λ x. codes "GET /" ++ (t ++ (host_label ++ x))) (append_assoc h (58 ∷ p) (head_end ++ rest)), (58 ∷ (p ++ (head_end ++ rest)), inn', refl, (head_end ++ rest, inn'', refl, refl))) })
+        inr (record {
+          holes = t ∷ h ∷ p ∷ [];
+          rest = rest;
+          size = omega arith;
+          reads = (host_label ++ (h ++ (58 ∷ (p ++ (head_end ++ rest)))), inn, e ∙ text_rest t (h ++ 58 ∷ p) rest ∙ ap (λ x. codes "GET /" ++ (t ++ (host_label ++ x))) (append_assoc h (58 ∷ p) (head_end ++ rest)), (58 ∷ (p ++ (head_end ++ rest)), inn', refl, (head_end ++ rest, inn'', refl, refl)));
+        })
 
 at_size : (n : ℕ) (bytes : List ℕ) → n ≤ length bytes → n ≤ max_head → length bytes ≤ max_head + length (drop n bytes)
 at_size n bytes within small = omega (arith, length-drop n bytes)
@@ -131,16 +140,18 @@ none_of : (form : List Gap) (bytes : List ℕ) → IsBounded form bytes at.Bad �
 none_of form bytes b h = b (record { more = []; has = subst (HasBounded form) (sym (append-nil bytes)) h })
 
 pub later_plain : (bytes : List ℕ) → IsBounded plain_form bytes at.Later → (HasBounded ported_form bytes → ⊥) → IsHeadAt bytes at.Later
-later_plain bytes plain none =
-    ((λ h. elim (either_form bytes h) [ inl x ↦ plain.0 x | inr y ↦ none y ]),
-     record { more = plain.1.more; has = has_plain (bytes ++ plain.1.more) plain.1.has })
+later_plain bytes plain none = (
+  (λ h. elim (either_form bytes h) [ inl x ↦ plain.0 x | inr y ↦ none y ]),
+  record { more = plain.1.more; has = has_plain (bytes ++ plain.1.more) plain.1.has },
+)
 
 pub later_bad : (bytes : List ℕ) → IsBounded plain_form bytes at.Later → IsBounded ported_form bytes at.Bad → IsHeadAt bytes at.Later
 later_bad bytes plain ported = later_plain bytes plain (none_of ported_form bytes ported)
 
 pub as_ported : (bytes : List ℕ) (a : HeadAt) → IsBounded plain_form bytes at.Bad → IsBounded ported_form bytes a → IsHeadAt bytes a
 as_ported bytes (at.Whole n) plain ported = whole_ported bytes n ported
-as_ported bytes at.Later plain ported =
-    ((λ h. elim (either_form bytes h) [ inl x ↦ none_of plain_form bytes plain x | inr y ↦ ported.0 y ]),
-     record { more = ported.1.more; has = has_ported (bytes ++ ported.1.more) ported.1.has })
+as_ported bytes at.Later plain ported = (
+  (λ h. elim (either_form bytes h) [ inl x ↦ none_of plain_form bytes plain x | inr y ↦ ported.0 y ]),
+  record { more = ported.1.more; has = has_ported (bytes ++ ported.1.more) ported.1.has },
+)
 as_ported bytes at.Bad plain ported = λ m. elim (either_form (bytes ++ m.more) m.has) [ inl x ↦ plain (record { more = m.more; has = x }) | inr y ↦ ported (record { more = m.more; has = y }) ]

@@ -1,14 +1,12 @@
 -- A head is read in one way alone, and its parts by runs.
-use Rattle.std.proofs.Common.{◌≡◌, ℕ, zero, suc, ◌+◌, ◌-◌, ◌<◌, ◌≤◌, List, [], ◌∷◌, ◌++◌, length, take, drop, refl, ap, ap₂, sym, ◌∙◌, subst, arith, true, Option, Some, None, append_assoc, append-nil, length-append, length-drop, ◌⊎◌, inl, inr}
+use Rattle.std.proofs.Common.{◌≡◌, ℕ, ◌+◌, ◌-◌, ◌<◌, ◌≤◌, List, ◌∷◌, ◌++◌, length, take, drop, refl, ap, ap₂, sym, ◌∙◌, subst, arith, true, Option, Some, None, append_assoc, length-append, length-drop}
 use Rattle.std.specs.Prelude.{codes, IfSome}
-use Rattle.std.proofs.lemmas.List.{append_cancel_left, length-take-le, take-append-drop}
+use Rattle.std.proofs.lemmas.List.{append_cancel_left}
 use Rattle.std.proofs.Math.Seq.{take-append_seam}
-use Rattle.wd_top.specs.declared.form.Hole.{Hole}
 use Rattle.wd_top.specs.declared.form.Hole.TheVariants as hole
-use Rattle.wd_top.specs.Form.{IsIn, fills, begins_outside, IsRun}
+use Rattle.wd_top.specs.Form.{IsIn, begins_outside, IsRun}
 use Rattle.wd_top.specs.Head.{Head, head_end, host_label, authority, host_value, head_text, ReadsHead}
-use Rattle.wd_top.specs.Conn.{AreHeadParts}
-use Rattle.wd_top.proofs.FormSteps.{same_run, run_exact, drop_seam, rest_of, drop_add}
+use Rattle.wd_top.proofs.FormSteps.{same_run, run_exact, drop_seam}
 use Rattle.wd_top.proofs.HeadSteps.{text_rest}
 
 -- what stands behind the host
@@ -66,7 +64,7 @@ parts_at bytes size n h within (i, e) run =
     let exact : (n ≡ length h.target) × (take n (drop 5 bytes) ≡ h.target) = run_exact hole.Word (drop 5 bytes) n h.target (host_label ++ tail) run behind i.target.0 refl in
     let len : n ≡ length h.target = exact.0 in
     let sizes : length bytes ≡ 5 + (length h.target + (17 + (length (host_value h) + (4 + length (drop size bytes))))) =
-      sum_of whole (length-append h.target (host_label ++ tail)) (length-append (host_value h) (head_end ++ drop size bytes)) in
+    sum_of whole (length-append h.target (host_label ++ tail)) (length-append (host_value h) (head_end ++ drop size bytes)) in
     let left : length (drop size bytes) ≡ length bytes - size = length-drop size bytes in
     let value : size - (5 + n + 21) ≡ length (host_value h) = omega arith in
     let spot : 5 + n + 17 ≡ length ((codes "GET /" ++ h.target) ++ host_label) = omega (arith, length-append (codes "GET /" ++ h.target) host_label) in
@@ -81,6 +79,7 @@ parts_at bytes size n h within (i, e) run =
     sum_of : bytes ≡ codes "GET /" ++ (h.target ++ (host_label ++ (host_value h ++ (head_end ++ drop size bytes)))) → length (h.target ++ (host_label ++ (host_value h ++ (head_end ++ drop size bytes)))) ≡ length h.target + length (host_label ++ (host_value h ++ (head_end ++ drop size bytes))) → length (host_value h ++ (head_end ++ drop size bytes)) ≡ length (host_value h) + length (head_end ++ drop size bytes)
         → length bytes ≡ 5 + (length h.target + (17 + (length (host_value h) + (4 + length (drop size bytes)))))
     sum_of whole a b = let l = ap length whole in omega (arith, l, a, b)
+
     some_host : (host : List ℕ) (port : Option (List ℕ)) → 1 ≤ length host → 0 < length (authority host port)
     some_host host None some = some
     some_host host (Some port) some = omega (arith, length-append host (58 ∷ port))

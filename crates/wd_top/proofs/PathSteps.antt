@@ -1,6 +1,5 @@
 -- Folders of paths.
-use Rattle.std.proofs.Common.{◌≡◌, ◌≢◌, ℕ, zero, suc, ◌+◌, ◌-◌, ◌<◌, ◌≤◌, List, [], ◌∷◌, ◌++◌, length, take, drop, get_or, refl, ap, sym, ◌∙◌, subst, arith, Bool, true, false, ◌||◌, nat_eq, eq-eqb}
-use Rattle.std.proofs.lemmas.Bool.{false≢true}
+use Rattle.std.proofs.Common.{◌≡◌, ℕ, zero, suc, ◌-◌, ◌<◌, ◌≤◌, List, [], ◌∷◌, length, take, drop, get_or, refl, ap, sym, subst, arith, true, false, ◌||◌, nat_eq}
 use Rattle.wd_top.specs.Config.{has_slash, folder_of}
 
 no_folder : (path : List ℕ) → has_slash path ≡ false → folder_of path ≡ []

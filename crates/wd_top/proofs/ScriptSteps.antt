@@ -1,11 +1,10 @@
 -- String literals with `\n`.
-use Rattle.std.proofs.Common.{◌≡◌, ◌≢◌, ℕ, zero, suc, ◌+◌, ◌<◌, ◌≤◌, List, [], ◌∷◌, ◌++◌, length, take, drop, get_or, refl, ap, ap₂, sym, ◌∙◌, subst, arith, Bool, true, false, ◌&&◌, ◌||◌, not, Option, Some, None, append_assoc, append-nil, ◌⊎◌, inl, inr, nat_eq, eq-eqb}
-use Rattle.std.specs.Prelude.{Result, Ok, Err, IfOk, flat_map}
-use Rattle.std.proofs.lemmas.Bool.{false≢true}
+use Rattle.std.proofs.Common.{◌≡◌, ℕ, zero, suc, ◌+◌, ◌<◌, ◌≤◌, List, [], ◌∷◌, ◌++◌, length, take, get_or, refl, ap, ap₂, sym, ◌∙◌, subst, arith, Bool, true, false, Option, Some, None, append_assoc, append-nil, ◌⊎◌, inl, inr}
+use Rattle.std.specs.Prelude.{Result, Ok, Err, IfOk}
 use Rattle.wd_base.specs.declared.ids.NoMemory.{NoMemory}
 use Rattle.wd_top.specs.declared.form.Hole.TheVariants as hole
 use Rattle.wd_top.specs.Form.{ReadsForm, IsFilled, fills, is_quoted}
-use Rattle.wd_top.specs.Script.{script_form, script_end, is_answer, all_answer, escaped_byte, escaped, Unescapes, IsScript, ScriptOf, pending, IsUnit}
+use Rattle.wd_top.specs.Script.{script_form, script_end, is_answer, all_answer, escaped_byte, escaped, Unescapes, ScriptOf, pending, IsUnit}
 use Rattle.wd_top.specs.declared.script.Unit.TheVariants as unit
 use Rattle.std.proofs.lemmas.List.{take_all}
 use Rattle.wd_top.proofs.FormSteps.{form_unique, both, both_left, both_right}
@@ -29,23 +28,23 @@ n_after [] [] rest a a' e = absurd (nothing e)
     nothing : 92 ∷ rest ≡ [] → ⊥
     nothing e = cc
 n_after [] (c ∷ w) rest a a' e = elim (by_byte c (both_left _ _ a')) [
-    | inl lf ↦ (escaped w, (let f : 92 ∷ rest ≡ 92 ∷ 110 ∷ escaped w = e ∙ ap (λ t. t ++ escaped w) lf.1 in cc))
-    | inr plain ↦ absurd (plain.0 (let f : 92 ∷ rest ≡ c ∷ escaped w = e ∙ ap (λ t. t ++ escaped w) plain.1 in cc))
-    ]
+  | inl lf ↦ (escaped w, (let f : 92 ∷ rest ≡ 92 ∷ 110 ∷ escaped w = e ∙ ap (λ t. t ++ escaped w) lf.1 in cc))
+  | inr plain ↦ absurd (plain.0 (let f : 92 ∷ rest ≡ c ∷ escaped w = e ∙ ap (λ t. t ++ escaped w) plain.1 in cc))
+]
 n_after (b ∷ body) [] rest a a' e = elim (by_byte b (both_left _ _ a)) [
-    | inl lf ↦ absurd (let f : 92 ∷ 110 ∷ (escaped body ++ 92 ∷ rest) ≡ [] = ap (λ t. (t ++ escaped body) ++ 92 ∷ rest) (sym lf.1) ∙ e in cc)
-    | inr plain ↦ absurd (let f : b ∷ (escaped body ++ 92 ∷ rest) ≡ [] = ap (λ t. (t ++ escaped body) ++ 92 ∷ rest) (sym plain.1) ∙ e in cc)
-    ]
+  | inl lf ↦ absurd (let f : 92 ∷ 110 ∷ (escaped body ++ 92 ∷ rest) ≡ [] = ap (λ t. (t ++ escaped body) ++ 92 ∷ rest) (sym lf.1) ∙ e in cc)
+  | inr plain ↦ absurd (let f : b ∷ (escaped body ++ 92 ∷ rest) ≡ [] = ap (λ t. (t ++ escaped body) ++ 92 ∷ rest) (sym plain.1) ∙ e in cc)
+]
 n_after (b ∷ body) (c ∷ w) rest a a' e = elim (by_byte b (both_left _ _ a)) [
-    | inl lf ↦ elim (by_byte c (both_left _ _ a')) [
-        | inl lf' ↦ n_after body w rest (both_right _ _ a) (both_right _ _ a') (let f : 92 ∷ 110 ∷ (escaped body ++ 92 ∷ rest) ≡ 92 ∷ 110 ∷ escaped w = ap (λ t. (t ++ escaped body) ++ 92 ∷ rest) (sym lf.1) ∙ e ∙ ap (λ t. t ++ escaped w) lf'.1 in cc)
-        | inr plain' ↦ absurd (plain'.0 (let f : 92 ∷ 110 ∷ (escaped body ++ 92 ∷ rest) ≡ c ∷ escaped w = ap (λ t. (t ++ escaped body) ++ 92 ∷ rest) (sym lf.1) ∙ e ∙ ap (λ t. t ++ escaped w) plain'.1 in cc))
-        ]
-    | inr plain ↦ elim (by_byte c (both_left _ _ a')) [
-        | inl lf' ↦ absurd (plain.0 (let f : b ∷ (escaped body ++ 92 ∷ rest) ≡ 92 ∷ 110 ∷ escaped w = ap (λ t. (t ++ escaped body) ++ 92 ∷ rest) (sym plain.1) ∙ e ∙ ap (λ t. t ++ escaped w) lf'.1 in cc))
-        | inr plain' ↦ n_after body w rest (both_right _ _ a) (both_right _ _ a') (let f : b ∷ (escaped body ++ 92 ∷ rest) ≡ c ∷ escaped w = ap (λ t. (t ++ escaped body) ++ 92 ∷ rest) (sym plain.1) ∙ e ∙ ap (λ t. t ++ escaped w) plain'.1 in cc)
-        ]
-    ]
+  | inl lf ↦ elim (by_byte c (both_left _ _ a')) [
+    | inl lf' ↦ n_after body w rest (both_right _ _ a) (both_right _ _ a') (let f : 92 ∷ 110 ∷ (escaped body ++ 92 ∷ rest) ≡ 92 ∷ 110 ∷ escaped w = ap (λ t. (t ++ escaped body) ++ 92 ∷ rest) (sym lf.1) ∙ e ∙ ap (λ t. t ++ escaped w) lf'.1 in cc)
+    | inr plain' ↦ absurd (plain'.0 (let f : 92 ∷ 110 ∷ (escaped body ++ 92 ∷ rest) ≡ c ∷ escaped w = ap (λ t. (t ++ escaped body) ++ 92 ∷ rest) (sym lf.1) ∙ e ∙ ap (λ t. t ++ escaped w) plain'.1 in cc))
+  ]
+  | inr plain ↦ elim (by_byte c (both_left _ _ a')) [
+    | inl lf' ↦ absurd (plain.0 (let f : b ∷ (escaped body ++ 92 ∷ rest) ≡ 92 ∷ 110 ∷ escaped w = ap (λ t. (t ++ escaped body) ++ 92 ∷ rest) (sym plain.1) ∙ e ∙ ap (λ t. t ++ escaped w) lf'.1 in cc))
+    | inr plain' ↦ n_after body w rest (both_right _ _ a) (both_right _ _ a') (let f : b ∷ (escaped body ++ 92 ∷ rest) ≡ c ∷ escaped w = ap (λ t. (t ++ escaped body) ++ 92 ∷ rest) (sym plain.1) ∙ e ∙ ap (λ t. t ++ escaped w) plain'.1 in cc)
+  ]
+]
 
 pub bad_escape : (text body : List ℕ) (b : ℕ) (rest : List ℕ) → all_answer body ≡ true → text ≡ escaped body ++ 92 ∷ b ∷ rest → (b ≡ 110 → ⊥) → Unescapes text None
 bad_escape text body b rest a e other w a' e' = let n = n_after body w (b ∷ rest) a a' (sym e ∙ e') in other (let f = n.1 in cc)
@@ -82,9 +81,9 @@ plain_unit b q ne = grind (arith, q, ne)
 
 pub step_byte : (text : List ℕ) (n : ℕ) (body : List ℕ) (opened : Bool) (d u : ℕ) → fills hole.Quoted 0 text ≡ true → n < length text → IsUnit opened (get_or text n d) (unit.Byte u) → HasRead text n body opened → HasRead text (n + 1) (body ++ u ∷ []) false
 step_byte text n body true d u q lt i r = record {
-    answer = answer_append body (u ∷ []) r.answer (rw i.1 refl);
-    shown = take_more text n d lt ∙ ap₂ (λ a b. a ++ b ∷ []) r.shown i.0 ∙ append_assoc (escaped body) (92 ∷ []) (110 ∷ []) ∙ sym (append-nil _ ∙ escaped_append body (u ∷ []) ∙ ap (λ v. escaped body ++ escaped (v ∷ [])) i.1);
-  }
+  answer = answer_append body (u ∷ []) r.answer (rw i.1 refl);
+  shown = take_more text n d lt ∙ ap₂ (λ a b. a ++ b ∷ []) r.shown i.0 ∙ append_assoc (escaped body) (92 ∷ []) (110 ∷ []) ∙ sym (append-nil _ ∙ escaped_append body (u ∷ []) ∙ ap (λ v. escaped body ++ escaped (v ∷ [])) i.1);
+}
 step_byte text n body false d u q lt i r =
     let p = plain_unit (get_or text n d) (quoted_at 0 text n d lt q) i.0 in
     record {
@@ -112,23 +111,23 @@ read_whole text n body all r = (r.answer, sym (take_all n text all) ∙ r.shown 
 escaped_same : (a b : List ℕ) → all_answer a ≡ true → all_answer b ≡ true → escaped a ≡ escaped b → a ≡ b
 escaped_same [] [] x y e = refl
 escaped_same [] (c ∷ b) x y e = elim (by_byte c (both_left _ _ y)) [
-    | inl lf ↦ absurd (let f : [] ≡ 92 ∷ 110 ∷ escaped b = e ∙ ap (λ t. t ++ escaped b) lf.1 in cc)
-    | inr plain ↦ absurd (let f : [] ≡ c ∷ escaped b = e ∙ ap (λ t. t ++ escaped b) plain.1 in cc)
-    ]
+  | inl lf ↦ absurd (let f : [] ≡ 92 ∷ 110 ∷ escaped b = e ∙ ap (λ t. t ++ escaped b) lf.1 in cc)
+  | inr plain ↦ absurd (let f : [] ≡ c ∷ escaped b = e ∙ ap (λ t. t ++ escaped b) plain.1 in cc)
+]
 escaped_same (c ∷ a) [] x y e = elim (by_byte c (both_left _ _ x)) [
-    | inl lf ↦ absurd (let f : [] ≡ 92 ∷ 110 ∷ escaped a = sym e ∙ ap (λ t. t ++ escaped a) lf.1 in cc)
-    | inr plain ↦ absurd (let f : [] ≡ c ∷ escaped a = sym e ∙ ap (λ t. t ++ escaped a) plain.1 in cc)
-    ]
+  | inl lf ↦ absurd (let f : [] ≡ 92 ∷ 110 ∷ escaped a = sym e ∙ ap (λ t. t ++ escaped a) lf.1 in cc)
+  | inr plain ↦ absurd (let f : [] ≡ c ∷ escaped a = sym e ∙ ap (λ t. t ++ escaped a) plain.1 in cc)
+]
 escaped_same (c ∷ a) (d ∷ b) x y e = elim (by_byte c (both_left _ _ x)) [
-    | inl lf ↦ elim (by_byte d (both_left _ _ y)) [
-        | inl lf' ↦ ap₂ (λ h t. h ∷ t) (lf.0 ∙ sym lf'.0) (escaped_same a b (both_right _ _ x) (both_right _ _ y) (let f : 92 ∷ 110 ∷ escaped a ≡ 92 ∷ 110 ∷ escaped b = ap (λ t. t ++ escaped a) (sym lf.1) ∙ e ∙ ap (λ t. t ++ escaped b) lf'.1 in cc))
-        | inr plain' ↦ absurd (plain'.0 (let f : 92 ∷ 110 ∷ escaped a ≡ d ∷ escaped b = ap (λ t. t ++ escaped a) (sym lf.1) ∙ e ∙ ap (λ t. t ++ escaped b) plain'.1 in cc))
-        ]
-    | inr plain ↦ elim (by_byte d (both_left _ _ y)) [
-        | inl lf' ↦ absurd (plain.0 (let f : c ∷ escaped a ≡ 92 ∷ 110 ∷ escaped b = ap (λ t. t ++ escaped a) (sym plain.1) ∙ e ∙ ap (λ t. t ++ escaped b) lf'.1 in cc))
-        | inr plain' ↦ (let f : c ∷ escaped a ≡ d ∷ escaped b = ap (λ t. t ++ escaped a) (sym plain.1) ∙ e ∙ ap (λ t. t ++ escaped b) plain'.1 in ap₂ (λ h t. h ∷ t) (let g = f in cc) (escaped_same a b (both_right _ _ x) (both_right _ _ y) (let g = f in cc)))
-        ]
-    ]
+  | inl lf ↦ elim (by_byte d (both_left _ _ y)) [
+    | inl lf' ↦ ap₂ (λ h t. h ∷ t) (lf.0 ∙ sym lf'.0) (escaped_same a b (both_right _ _ x) (both_right _ _ y) (let f : 92 ∷ 110 ∷ escaped a ≡ 92 ∷ 110 ∷ escaped b = ap (λ t. t ++ escaped a) (sym lf.1) ∙ e ∙ ap (λ t. t ++ escaped b) lf'.1 in cc))
+    | inr plain' ↦ absurd (plain'.0 (let f : 92 ∷ 110 ∷ escaped a ≡ d ∷ escaped b = ap (λ t. t ++ escaped a) (sym lf.1) ∙ e ∙ ap (λ t. t ++ escaped b) plain'.1 in cc))
+  ]
+  | inr plain ↦ elim (by_byte d (both_left _ _ y)) [
+    | inl lf' ↦ absurd (plain.0 (let f : c ∷ escaped a ≡ 92 ∷ 110 ∷ escaped b = ap (λ t. t ++ escaped a) (sym plain.1) ∙ e ∙ ap (λ t. t ++ escaped b) lf'.1 in cc))
+    | inr plain' ↦ (let f : c ∷ escaped a ≡ d ∷ escaped b = ap (λ t. t ++ escaped a) (sym plain.1) ∙ e ∙ ap (λ t. t ++ escaped b) plain'.1 in ap₂ (λ h t. h ∷ t) (let g = f in cc) (escaped_same a b (both_right _ _ x) (both_right _ _ y) (let g = f in cc)))
+  ]
+]
 
 hole_unique : (bytes h h' : List ℕ) → ReadsForm script_form script_end (h ∷ []) bytes [] → ReadsForm script_form script_end (h' ∷ []) bytes [] → h ≡ h'
 hole_unique bytes h h' r r' = let u : h ∷ [] ≡ h' ∷ [] = (form_unique script_form script_end (h ∷ []) (h' ∷ []) bytes [] [] refl r r').0 in cc
@@ -151,6 +150,7 @@ script_step bytes found hs list text filled is same item (Ok body) u =
     of_body : (body : Option (List ℕ)) → ReadsForm script_form script_end (text ∷ []) bytes [] → Unescapes text body → ScriptOf bytes body
     of_body None r u = λ b x. u b x.answer (hole_unique bytes text (escaped b) r x.reads)
     of_body (Some b) r u = record { answer = u.0; reads = subst (λ t. ReadsForm script_form script_end (t ∷ []) bytes []) u.1 r }
+
     of_list : (list : List (List ℕ)) → ReadsForm script_form script_end list bytes [] → text ≡ get_or list 0 text → (body : Option (List ℕ)) → Unescapes text body → ScriptOf bytes body
     of_list [] r e body u = absurd r
     of_list (h ∷ x ∷ hs) r e body u = absurd r.3

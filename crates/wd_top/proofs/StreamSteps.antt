@@ -1,10 +1,9 @@
 -- The stream goes on, and is read in one way alone.
-use Rattle.std.proofs.Common.{◌≡◌, ℕ, ◌+◌, ◌<◌, ◌≤◌, List, [], ◌∷◌, ◌++◌, length, drop, refl, ap, ap₂, sym, ◌∙◌, subst, arith, Bool, true, false, ◌||◌, Option, Some, None, append_assoc, append-nil, ◌⊎◌, inl, inr}
+use Rattle.std.proofs.Common.{◌≡◌, ℕ, List, [], ◌∷◌, ◌++◌, length, refl, ap, ap₂, sym, ◌∙◌, subst, arith, Bool, true, false, ◌||◌, Option, Some, None, append_assoc, append-nil, ◌⊎◌, inl, inr}
 use Rattle.std.proofs.lemmas.Bool.{false≢true}
-use Rattle.std.specs.Prelude.{codes}
 use Rattle.url.specs.Parts.{Parts}
 use Rattle.wd_base.specs.declared.http.ReqData.{ReqData}
-use Rattle.wd_top.specs.Head.{Head, ReadsHead, HasHead, MayBecomeHead, host_value, head_text}
+use Rattle.wd_top.specs.Head.{Head, HasHead, host_value, head_text}
 use Rattle.wd_top.specs.Stream.{Reads, Requests, ReadsAll, closing, request_at, url_of, url_text, UrlOf, EndsAs, RequestsOf, IsFault, IsUnfinished, HasBadUrl}
 use Rattle.wd_top.proofs.HeadUnique.{head_unique, head_more}
 
@@ -46,9 +45,10 @@ abbrev first_head : Head
 first_head = record { target = []; host = 97 ∷ []; port = None }
 
 pub unfinished_nothing : IsUnfinished []
-unfinished_nothing =
-    (λ h. let e = ap length h.reads.1 in absurd (omega arith),
-     record { more = head_text first_head; has = record { head = first_head; rest = []; reads = (record { target = (refl, omega arith); host = (refl, omega arith); port = tt; size = omega arith }, sym (append-nil (head_text first_head))) } })
+unfinished_nothing = (
+  λ h. let e = ap length h.reads.1 in absurd (omega arith),
+  record { more = head_text first_head; has = record { head = first_head; rest = []; reads = (record { target = (refl, omega arith); host = (refl, omega arith); port = tt; size = omega arith }, sym (append-nil (head_text first_head))) } },
+)
 
 fault_url : (b : List ℕ) (r : ReqData) (c : Bool) (rest : List ℕ) → HasBadUrl b → Reads b r c rest → ⊥
 fault_url b r c rest bad x =
@@ -70,10 +70,13 @@ unfinished_fault b code u f = elim f.1 [ inl never ↦ never u.1 | inr bad ↦ u
 
 -- a fault stays one whatever comes behind
 pub fault_more : (b : List ℕ) (code : ℕ) (m : List ℕ) → IsFault b code → IsFault (b ++ m) code
-fault_more b code m (is, f) = (is, elim f [
+fault_more b code m (is, f) = (
+  is,
+  elim f [
     | inl never ↦ inl (λ x. never (record { more = m ++ x.more; has = subst HasHead (append_assoc b m x.more) x.has }))
     | inr bad ↦ inr (record { head = bad.head; rest = bad.rest ++ m; reads = head_more b bad.head bad.rest m bad.reads; none = bad.none })
-    ])
+  ],
+)
 
 -- nothing is read behind the requests
 abbrev pub Stuck : Bool → List ℕ → Type 0
@@ -103,6 +106,7 @@ one_stream b (r ∷ rs) (r' ∷ rs') rest rest' (mid, q, last, qs) (mid', q', la
     open_tail : (c d : Bool) (z : List ℕ) → c ≡ false → Stuck (c || d) z → Stuck d z
     open_tail true d z e h = absurd (false≢true (sym e))
     open_tail false d z e h = h
+
     others : (c : Bool) → r.1 ≡ c → (Stuck (closing rs) rest → Stuck (closing rs') rest' → (rs ≡ rs') × (rest ≡ rest')) → (rs ≡ rs') × (rest ≡ rest')
     others true e more =
         let u = reads_unique b r.0 r'.0 r.1 r'.1 mid mid' q q' in

@@ -1,5 +1,5 @@
 -- The words of the command line.
-use Rattle.std.specs.Prelude.{ℕ, Bool, true, false, ◌&&◌, not, List, [], ◌∷◌, codes, bytes_eq, nat_eq, Option, Some, None, if◌then◌else◌}
+use Rattle.std.specs.Prelude.{ℕ, Bool, true, ◌&&◌, not, List, [], ◌∷◌, codes, bytes_eq, nat_eq, Option, Some, None, if◌then◌else◌}
 
 -- the word is no option
 abbrev pub is_path : List ℕ → Bool

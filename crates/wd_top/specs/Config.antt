@@ -1,5 +1,5 @@
 -- The base form of a configuration file.
-use Rattle.std.specs.Prelude.{◌≡◌, ℕ, Bool, true, false, ◌||◌, nat_eq, ◌<◌, ◌≤◌, List, [], ◌∷◌, ◌++◌, codes, decimal, map, Option, Some, None, if◌then◌else◌}
+use Rattle.std.specs.Prelude.{◌≡◌, ℕ, Bool, false, ◌||◌, nat_eq, ◌<◌, ◌≤◌, List, [], ◌∷◌, ◌++◌, codes, decimal, map, Option, Some, None, if◌then◌else◌}
 use Rattle.std.specs.Char.{is_ascii_digit}
 use Rattle.wd_top.specs.declared.form.Hole.TheVariants as hole
 use Rattle.wd_top.specs.declared.config.BaseConfig.{BaseConfig}

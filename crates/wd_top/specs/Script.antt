@@ -1,5 +1,5 @@
 -- Scripts of the one form that is read.
-use Rattle.std.specs.Prelude.{◌≡◌, ℕ, Bool, true, false, ◌&&◌, ◌||◌, not, List, [], ◌∷◌, ◌++◌, codes, nat_eq, flat_map, Option, Some, None, if◌then◌else◌}
+use Rattle.std.specs.Prelude.{◌≡◌, ℕ, Bool, true, false, ◌&&◌, ◌||◌, not, List, [], ◌∷◌, codes, nat_eq, flat_map, Option, Some, None, if◌then◌else◌}
 use Rattle.wd_top.specs.declared.form.Hole.TheVariants as hole
 use Rattle.wd_top.specs.declared.script.Unit.{Unit}
 use Rattle.wd_top.specs.declared.script.Unit.TheVariants as unit

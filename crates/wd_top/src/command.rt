@@ -13,10 +13,7 @@ pub fn served_config(words: &[String]) -> Option<&str>
         [verb, config, flag, count]
             if is_serve(verb.as_str(), config.as_str())
                 && flag.as_str() == "--threads"
-                && count.as_str() == "1" =>
-        {
-            Some(config.as_str())
-        }
+                && count.as_str() == "1" => { Some(config.as_str()) }
         _ => None,
     }
 }

@@ -183,7 +183,11 @@ pub fn embed_path(alloc: Global, config: &[u8], path: &[u8]) -> Result<Bytes, No
 fn base_of<'a>(config: &'a [u8], path: &[u8]) -> &'a [u8]
     ensures { result.now ≡ base_of config.now path.now }
 {
-    if is_absolute(path) { b"" } else { folder_of(config) }
+    if is_absolute(path) {
+        b""
+    } else {
+        folder_of(config)
+    }
 }
 
 fn is_absolute(path: &[u8]) -> bool

@@ -112,10 +112,18 @@ fn start_of(bytes: &[u8], text: &[u8]) -> Start
 {
     if text.len() <= bytes.len() {
         let front = &bytes[..text.len()];
-        if front == text { Start::Whole } else { Start::Other }
+        if front == text {
+            Start::Whole
+        } else {
+            Start::Other
+        }
     } else {
         let front = &text[..bytes.len()];
-        if front == bytes { Start::Short } else { Start::Other }
+        if front == bytes {
+            Start::Short
+        } else {
+            Start::Other
+        }
     }
 }
 

@@ -10,3 +10,6 @@ mod http_in;
 mod http_text;
 mod script;
 mod seat;
+
+#[cfg(test)]
+mod tests;

@@ -68,7 +68,11 @@ fn next_unit(escaped: bool, byte: u8) -> Unit
     ensures { IsUnit escaped byte result }
 {
     if escaped {
-        if byte == b'n' { Unit::Byte(b'\n') } else { Unit::Bad }
+        if byte == b'n' {
+            Unit::Byte(b'\n')
+        } else {
+            Unit::Bad
+        }
     } else if byte == b'\\' {
         Unit::Backslash
     } else {

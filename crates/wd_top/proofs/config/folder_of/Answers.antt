@@ -5,6 +5,6 @@ use Rattle.wd_top.proofs.config.folder_of.Goals.{then-loop-end-test+else-path-en
 
 pub returns : goal.returns
 returns c = elim c.loop-end-test.branch [
-    | then-loop-end-test+else-path-end-ne47 w ↦ folder_at c.args.path.now c.loop-end.end 0 c.loop-end.invariant.0 c.loop-end.invariant.1 (λ pos. w.if-path-end-ne47.false)
-    | else-loop-end-test w ↦ folder_at c.args.path.now c.loop-end.end 0 c.loop-end.invariant.0 c.loop-end.invariant.1 (λ pos. absurd (omega (arith, pos, w.loop-end-test.false)))
-    ]
+  | then-loop-end-test+else-path-end-ne47 w ↦ folder_at c.args.path.now c.loop-end.end 0 c.loop-end.invariant.0 c.loop-end.invariant.1 (λ pos. w.if-path-end-ne47.false)
+  | else-loop-end-test w ↦ folder_at c.args.path.now c.loop-end.end 0 c.loop-end.invariant.0 c.loop-end.invariant.1 (λ pos. absurd (omega (arith, pos, w.loop-end-test.false)))
+]
