@@ -54,10 +54,10 @@ legal_from_push m opens world s (x ∷ es) e l b =
 -- an entry of seat 0 that is allowed goes behind the others
 run_push : {I : Type 0} (m : Meaning I) (world : Config) (es : List Entry) (e : Entry) (s : State I) → IsRun m world es → s ≡ after m world es → broken_in true (is_open world Whole) world s e ≡ None → HasNext (arrival_count es) e → seat_of e ≡ 0 → IsRun m world (es ++ e ∷ [])
 run_push m world es e s r is b next here = record {
-    allowed = legal_from_push m (is_open world Whole) world (first_state m world) es e r.allowed (subst (λ x. broken_in true (is_open world Whole) world x e ≡ None) is b);
-    numbered = numbered_push es e r.numbered next;
-    seat = seat_push 0 es e r.seat here;
-  }
+  allowed = legal_from_push m (is_open world Whole) world (first_state m world) es e r.allowed (subst (λ x. broken_in true (is_open world Whole) world x e ≡ None) is b);
+  numbered = numbered_push es e r.numbered next;
+  seat = seat_push 0 es e r.seat here;
+}
 
 -- THE ENTRIES OF A REQUEST
 
@@ -91,20 +91,27 @@ asks_begun x q service link request j =
 -- the request stands with the reply of its turn
 pub answers : (q : Req) (service : List ℕ) (link : LinkNo) (request : ReqData) (j : List Entry) (out : Out) → IsNumbered j → q.0 ≡ arrival_count j + 1 → Answers link service request j (three_entries j q service link request out) (Ok out.reply)
 answers q service link request j out numbered next = elim out.reply as (λ o. ((n : ℕ) → talk 0 n j3 ≡ record { rows = with_reply_if q.0 o (talk 0 n j1).rows; orderly = (talk 0 n j1).orderly }) → Answers link service request j j3 (Ok o)) [
-    | None ↦ λ t. ((λ n ne. t n ∙ arrived_others q service link request j n ne), (q.0, t link.0 ∙ arrived_adds q service link request j))
-    | Some reply ↦ λ t. (
-        (λ n ne. t n ∙ ap (λ k. record { rows = with_reply q.0 reply k.rows; orderly = k.orderly }) (arrived_others q service link request j n ne)
-          ∙ ap (λ rows. record { rows = rows; orderly = (talk 0 n j).orderly }) (reply_none (arrival_count j) q.0 reply (talk 0 n j).rows (below 0 n j numbered) (omega (arith, next)))),
-        (q.0, t link.0 ∙ ap (λ k. record { rows = with_reply q.0 reply k.rows; orderly = k.orderly }) (arrived_adds q service link request j)
-          ∙ ap (λ rows. record { rows = rows; orderly = (add_row (asked_row q service request) (talk 0 link.0 j)).orderly }) (reply_last (arrival_count j) q service request reply (talk 0 link.0 j).rows (below 0 link.0 j numbered) (omega (arith, next)))))
-  ] told
+  | None ↦ λ t. ((λ n ne. t n ∙ arrived_others q service link request j n ne), (q.0, t link.0 ∙ arrived_adds q service link request j))
+  | Some reply ↦ λ t. (
+    (λ n ne. t n ∙ ap (λ k. record { rows = with_reply q.0 reply k.rows; orderly = k.orderly }) (arrived_others q service link request j n ne)
+        ∙ ap (λ rows. record { rows = rows; orderly = (talk 0 n j).orderly }) (reply_none (arrival_count j) q.0 reply (talk 0 n j).rows (below 0 n j numbered) (omega (arith, next)))),
+    (
+      q.0,
+      t link.0 ∙ ap (λ k. record { rows = with_reply q.0 reply k.rows; orderly = k.orderly }) (arrived_adds q service link request j)
+          ∙ ap (λ rows. record { rows = rows; orderly = (add_row (asked_row q service request) (talk 0 link.0 j)).orderly }) (reply_last (arrival_count j) q service request reply (talk 0 link.0 j).rows (below 0 link.0 j numbered) (omega (arith, next))),
+    ),
+  )
+] told
   where
     j1 : List Entry
     j1 = j ++ arrive_entry q service link request ∷ []
+
     j2 : List Entry
     j2 = two_entries j q service link request
+
     j3 : List Entry
     j3 = three_entries j q service link request out
+
     told : (n : ℕ) → talk 0 n j3 ≡ record { rows = with_reply_if q.0 out.reply (talk 0 n j1).rows; orderly = (talk 0 n j1).orderly }
     told n = talk_push 0 n j2 (Turn the_seat q out) ∙ ap (λ k. record { rows = with_reply_if q.0 out.reply k.rows; orderly = k.orderly }) (begun_same n q j1)
 
@@ -131,18 +138,18 @@ count_arrived j q service link request = count_push j (arrive_entry q service li
 
 pub stands_arrived : {I : Type 0} (m : Meaning I) (world : Config) (s : State I) (j : List Entry) (n : ℕ) (q : Req) (service : List ℕ) (link : LinkNo) (request : ReqData) → Stands m world s j n → q.0 ≡ n + 1 → position_from (is_worker service) 0 s.workers ≡ None → Stands m world (after_arrival s q service link request) (j ++ arrive_entry q service link request ∷ []) q.0
 stands_arrived m world s j n q service link request x e none = record {
-    state = state_arrived m world s j n q service link request x;
-    rests = rests_arrived s n q service link request x.rests e none;
-    count = e ∙ ap (λ k. k + 1) x.count ∙ sym (count_arrived j q service link request);
-  }
+  state = state_arrived m world s j n q service link request x;
+  rests = rests_arrived s n q service link request x.rests e none;
+  count = e ∙ ap (λ k. k + 1) x.count ∙ sym (count_arrived j q service link request);
+}
 
 pub stands_turned : {I : Type 0} (m : Meaning I) (world : Config) (s : State I) (j : List Entry) (n : ℕ) (q : Req) (service : List ℕ) (link : LinkNo) (request : ReqData) (w : WorkerState I) (out : Out) → Stands m world s j n → q.0 ≡ n + 1 → worker_of service s.workers ≡ Some w → Stands m world (turned (while_turn m s q service link request w) the_seat q) (three_entries j q service link request out) q.0
 stands_turned m world s j n q service link request w out x e found = record {
-    state = ap (λ t. turned t the_seat q) (state_begun m world s j n q service link request w x e found) ∙ sym (after_from_push m (first_state m world) (two_entries j q service link request) (Turn the_seat q out));
-    rests = rests_turned m s n q service link request w x.rests e found;
-    count = let zero_more : (k : ℕ) → k + 0 ≡ k = λ k. omega arith in
+  state = ap (λ t. turned t the_seat q) (state_begun m world s j n q service link request w x e found) ∙ sym (after_from_push m (first_state m world) (two_entries j q service link request) (Turn the_seat q out));
+  rests = rests_turned m s n q service link request w x.rests e found;
+  count = let zero_more : (k : ℕ) → k + 0 ≡ k = λ k. omega arith in
       e ∙ ap (λ k. k + 1) x.count ∙ sym (count_push (two_entries j q service link request) (Turn the_seat q out) ∙ zero_more _ ∙ count_push (j ++ arrive_entry q service link request ∷ []) (Begin the_seat q) ∙ zero_more _ ∙ count_arrived j q service link request);
-  }
+}
 
 -- THE SERVICES OF SOCKETS
 
@@ -211,22 +218,22 @@ pub exchanged : {I : Type 0} (m : Meaning I) (world : Config) (s s2 s3 : State I
     → Exchanged m world link service request j j3 s3 q.0 result
 exchanged m world s s2 s3 j j2 j3 n q service link request place (Err x) numbered r st e found is2 ij2 is3 ends err =
     subst (λ k. Exchanged m world link service request j k s3 q.0 (Err x)) (sym (err ∙ ij2))
-      (record { answers = asks_begun x q service link request j; run = begun_run m world s j n q service link request place r st e found; stands = tt })
+    (record { answers = asks_begun x q service link request j; run = begun_run m world s j n q service link request place r st e found; stands = tt })
 exchanged m world s s2 s3 j j2 j3 n q service link request place (Ok reply) numbered r st e found is2 ij2 is3 ends err =
     let w = found_place (is_worker service) s.workers 0 place found in
     let out : Out = out_of m q service link request w.0 in
     let now : s2 ≡ while_turn m s q service link request w.0 = is2 ∙ begins m s n q service link request w.0 st.rests e w.1 in
     let gives : turn_out (request_of q.0 s2.requests) (worker_for (request_of q.0 s2.requests) s2.workers) ≡ Some out =
-      ap (λ t. turn_out (request_of q.0 t.requests) (worker_for (request_of q.0 t.requests) t.workers)) now ∙ turn_out_is m s n q service link request w.0 st.rests e w.1 in
+    ap (λ t. turn_out (request_of q.0 t.requests) (worker_for (request_of q.0 t.requests) t.workers)) now ∙ turn_out_is m s n q service link request w.0 st.rests e w.1 in
     let ended : Ends q (Some out) j2 j3 reply = subst (λ o. Ends q o j2 j3 reply) gives ends in
     let whole : j3 ≡ three_entries j q service link request out = ended.0 ∙ ap (λ k. k ++ Turn the_seat q out ∷ []) ij2 in
     let two : IsRun m world (two_entries j q service link request) = run_begun m world s j n q service link request w.0 r st e w.1 in
     subst (λ k. Exchanged m world link service request j k s3 q.0 (Ok reply)) (sym whole)
-      (record {
-        answers = subst (λ o. Answers link service request j (three_entries j q service link request out) (Ok o)) (sym ended.1) (answers q service link request j out numbered (e ∙ ap (λ k. k + 1) st.count));
-        run = run_turned m world s j n q service link request w.0 two st e w.1;
-        stands = subst (λ t. Stands m world t (three_entries j q service link request out) q.0) (sym (is3 ∙ ap (λ t. turned t the_seat q) now)) (stands_turned m world s j n q service link request w.0 out st e w.1);
-      })
+    (record {
+      answers = subst (λ o. Answers link service request j (three_entries j q service link request out) (Ok o)) (sym ended.1) (answers q service link request j out numbered (e ∙ ap (λ k. k + 1) st.count));
+      run = run_turned m world s j n q service link request w.0 two st e w.1;
+      stands = subst (λ t. Stands m world t (three_entries j q service link request out) q.0) (sym (is3 ∙ ap (λ t. turned t the_seat q) now)) (stands_turned m world s j n q service link request w.0 out st e w.1);
+    })
 
 -- BEFORE ANY ENTRY
 
@@ -245,7 +252,7 @@ first_run m world = record { allowed = refl; numbered = tt; seat = tt }
 pub first_stands : {I : Type 0} (m : Meaning I) (world : Config) → Stands m world (first_state m world) [] 0
 unfolding arrival_count
 first_stands m world = record {
-    state = refl;
-    rests = record { rows = tt; count = refl; running = refl; due = refl; idle = idle_first m world.services world.services };
-    count = refl;
-  }
+  state = refl;
+  rests = record { rows = tt; count = refl; running = refl; due = refl; idle = idle_first m world.services world.services };
+  count = refl;
+}

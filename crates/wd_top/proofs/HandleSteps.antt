@@ -74,31 +74,31 @@ left_after s l t run e gone (inr is) c = subst (λ x. After x s l t run gone) (s
 
 pub handles_request : (n : LinkNo) (s : List ℕ) (run : LinkRun) (i : Heard) (r : ReqData) (c : Bool) (e : StepEnd) (t new : Told) (j j' : List Entry) (gone : Type 0) → i ≡ heard.Fed (fed.Request r c) → Replies n s r c e gone t new j j' → Handles n s run (record run { ready = true }) i e t new j j' gone
 handles_request n s run i r c e t new j j' gone is (inl (p, w, a, x, ends, lost)) = record {
-    change = with_sent (take x.count (reply_text p (is_head r) c));
-    tells = x.tells ∙ sent_link n _ t;
-    stands = λ l. (refl, refl);
-    same = (refl, refl);
-    others = a.0;
-    after = λ l k.
+  change = with_sent (take x.count (reply_text p (is_head r) c));
+  tells = x.tells ∙ sent_link n _ t;
+  stands = λ l. (refl, refl);
+  same = (refl, refl);
+  others = a.0;
+  after = λ l k.
       let h : Asks s l (talk 0 n.0 j) r c run = subst (λ y. Known y s l (talk 0 n.0 j) run) is k in
       subst (λ y. After y s (with_sent (take x.count (reply_text p (is_head r) c)) l) (talk 0 n.0 j') (record run { ready = true }) gone) (sym ends)
       (sent_after s l (talk 0 n.0 j') (record run { ready = true }) c (reply_text p (is_head r) c) x.count w gone x.within x.whole lost h.phase refl
-        (reading_asked s l (talk 0 n.0 j) (talk 0 n.0 j') run r c a.1.0 p h a.1.1));
-  }
+      (reading_asked s l (talk 0 n.0 j) (talk 0 n.0 j') run r c a.1.0 p h a.1.1));
+}
 handles_request n s run i r c e t new j j' gone is (inr (others, asked, same, left)) = record {
-    change = λ l. l;
-    tells = same ∙ same_link n t;
-    stands = λ l. (refl, refl);
-    same = (refl, refl);
-    others = others;
-    after = λ l k.
+  change = λ l. l;
+  tells = same ∙ same_link n t;
+  stands = λ l. (refl, refl);
+  same = (refl, refl);
+  others = others;
+  after = λ l k.
       let h : Asks s l (talk 0 n.0 j) r c run = subst (λ y. Known y s l (talk 0 n.0 j) run) is k in
       left_after s l (talk 0 n.0 j') (record run { ready = true }) e gone left
       (elim asked [
         | inl q ↦ subst (λ y. Carries s l y) (sym q) (carries_all s _ _ h.rest false h.reading)
         | inr q ↦ carries_asked s l (talk 0 n.0 j) (talk 0 n.0 j') run r c q.0 h q.1
       ]);
-  }
+}
 
 refused_after : (s : List ℕ) (l : LinkState) (t : Talk) (run : LinkRun) (rest : List ℕ) (code k : ℕ) (w : Result (Unit {0}) Failed) (gone : Type 0) → k ≤ length (tail_text (Some code)) → OnOk w (k ≡ length (tail_text (Some code))) → (IsErrOf w Fault → gone) → Reading s l t rest false [] → IsFault rest code → After (end_of w true) s (with_sent (take k (tail_text (Some code))) l) t run gone
 refused_after s l t run rest code k (Ok x) gone h all lost r f = (carries_refused s l t rest code k h r f, λ _. whole_refused s l t rest code k all r f)
@@ -107,12 +107,12 @@ refused_after s l t run rest code k (Err NoMemory) gone h all lost r f = carries
 
 pub handles_bad : (n : LinkNo) (s : List ℕ) (run : LinkRun) (i : Heard) (code : ℕ) (w : Result (Unit {0}) Failed) (t new : Told) (j : List Entry) (gone : Type 0) → i ≡ heard.Fed (fed.Bad code) → (IsErrOf w Fault → gone) → Sends n (tail_text (Some code)) w t new → Handles n s run run i (end_of w true) t new j j gone
 handles_bad n s run i code w t new j gone is lost x = record {
-    change = with_sent (take x.count (tail_text (Some code)));
-    tells = x.tells ∙ sent_link n _ t;
-    stands = λ l. (refl, refl);
-    same = (refl, refl);
-    others = λ k ne. refl;
-    after = λ l k.
+  change = with_sent (take x.count (tail_text (Some code)));
+  tells = x.tells ∙ sent_link n _ t;
+  stands = λ l. (refl, refl);
+  same = (refl, refl);
+  others = λ k ne. refl;
+  after = λ l k.
       let h : Known (heard.Fed (fed.Bad code)) s l (talk 0 n.0 j) run = subst (λ y. Known y s l (talk 0 n.0 j) run) is k in
       refused_after s l (talk 0 n.0 j) run h.0 code x.count w gone x.within x.whole lost h.1 h.2;
-  }
+}

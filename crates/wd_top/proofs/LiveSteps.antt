@@ -30,11 +30,13 @@ pub within_new : (live live' : List ℕ) (runs runs' : List LinkRun) (x : LinkRu
 within_new live live' runs runs' x e f w = rw (e, f) (record { below = let l : length (runs ++ x ∷ []) ≡ length runs + 1 = length-append runs _ in below_snoc _ (length runs) live (omega arith) (below_more (length runs) _ live (omega arith) w.below) })
 
 pub covers_new : (live live' : List ℕ) (runs runs' : List LinkRun) (x : LinkRun) → runs' ≡ runs ++ x ∷ [] → live' ≡ live ++ length runs ∷ [] → Covers live runs → Covers live' runs'
-covers_new live live' runs runs' x e f c = rw (e, f) (record { each = λ i h. elim (cases_eq i (length runs)) [
+covers_new live live' runs runs' x e f c = rw (e, f) (record {
+  each = λ i h. elim (cases_eq i (length runs)) [
     | inl q ↦ inr (subst (λ k. In k (live ++ length runs ∷ [])) (sym q) (in_last (length runs) live))
     | inr ne ↦ let below : i < length runs = let k : i < length runs + 1 = rw length-append at h in omega arith in
         elim (c.each i below) [ inl s ↦ inl (ap (λ r. r.stage) (old_run runs x i below) ∙ s) | inr n ↦ inr (in_more i (length runs) live n) ]
-  ] })
+  ];
+})
 
 in_index : (live : List ℕ) (k : ℕ) → k < length live → In (get_or live k 0) live
 in_index [] k h = absurd (omega arith)
@@ -50,10 +52,12 @@ below_index n live k h w = step live k h w.below
     step (x ∷ xs) (suc k) h b = step xs k (omega arith) b.1
 
 pub covers_step : (live : List ℕ) (k : ℕ) (runs runs' : List LinkRun) → k < length live → length runs' ≡ length runs → ((i : ℕ) → i ≢ get_or live k 0 → run_at runs' i ≡ run_at runs i) → Covers live runs → Covers live runs'
-covers_step live k runs runs' h same others c = record { each = λ i hi. elim (cases_eq i (get_or live k 0)) [
+covers_step live k runs runs' h same others c = record {
+  each = λ i hi. elim (cases_eq i (get_or live k 0)) [
     | inl q ↦ inr (subst (λ x. In x live) (sym q) (in_index live k h))
     | inr ne ↦ elim (c.each i (rw (← same) hi)) [ inl s ↦ inl (ap (λ r. r.stage) (others i ne) ∙ s) | inr n ↦ inr n ]
-  ] }
+  ];
+}
 
 -- what is shut may go from the list
 not_shut : (s : Stage) → is_shut s ≡ true → s ≡ Shut
@@ -64,13 +68,13 @@ not_shut Stopped e = absurd (false≢true e)
 keep_in : (runs : List LinkRun) (i : ℕ) (live : List ℕ) → In i live → ((run_at runs i).stage ≡ Shut) ⊎ In i (keep runs live)
 keep_in runs i [] h = elim h [ ]
 keep_in runs i (x ∷ xs) (inl e) = elim (is_shut (run_at runs x).stage) as (λ b. is_shut (run_at runs x).stage ≡ b → ((run_at runs i).stage ≡ Shut) ⊎ In i (cond b (keep runs xs) (x ∷ keep runs xs))) [
-    | true ↦ λ s. inl (ap (λ k. (run_at runs k).stage) (sym e) ∙ not_shut _ s)
-    | false ↦ λ s. inr (inl e)
-  ] refl
+  | true ↦ λ s. inl (ap (λ k. (run_at runs k).stage) (sym e) ∙ not_shut _ s)
+  | false ↦ λ s. inr (inl e)
+] refl
 keep_in runs i (x ∷ xs) (inr h) = elim (keep_in runs i xs h) [
-    | inl s ↦ inl s
-    | inr n ↦ inr (elim (is_shut (run_at runs x).stage) as (λ b. In i (cond b (keep runs xs) (x ∷ keep runs xs))) [ true ↦ n | false ↦ inr n ])
-  ]
+  | inl s ↦ inl s
+  | inr n ↦ inr (elim (is_shut (run_at runs x).stage) as (λ b. In i (cond b (keep runs xs) (x ∷ keep runs xs))) [ true ↦ n | false ↦ inr n ])
+]
 
 pub covers_keep : (live live' : List ℕ) (runs : List LinkRun) → live' ≡ keep runs live → Covers live runs → Covers live' runs
 covers_keep live live' runs e c = rw e (record { each = λ i h. elim (c.each i h) [ inl s ↦ inl s | inr n ↦ keep_in runs i live n ] })
@@ -122,6 +126,7 @@ drop_more a b k j h e = sym (drop_split a) ∙ ap (drop (j - k)) e ∙ drop_spli
         drop_none zero = refl
         drop_none (suc n) = refl
     again (y ∷ x) (suc m) n = let z : suc (m + n) ≡ suc m + n = omega arith in again x m n ∙ ap (λ t. drop t (y ∷ x)) z
+
     drop_split : (x : List ℕ) → drop (j - k) (drop k x) ≡ drop j x
     drop_split x = let z : k + (j - k) ≡ j = omega arith in again x k (j - k) ∙ ap (λ t. drop t x) z
 
@@ -146,14 +151,14 @@ pub record Compacts (runs : List LinkRun) (init live : List ℕ) (kept k : ℕ) 
 pub compacts : (runs : List LinkRun) (init live live' : List ℕ) (kept kept' k : ℕ) (goes : Bool) → k < length live → Compacts runs init live kept k → goes ≡ is_shut (run_at runs (get_or live k 0)).stage → length live' ≡ length live
     → take kept' live' ≡ take kept live ++ cond goes [] (get_or live k 0 ∷ []) → drop (kept + 1) live' ≡ drop (kept + 1) live → kept' ≤ kept + 1 → Compacts runs init live' kept' (k + 1)
 compacts runs init live live' kept kept' k goes h c d len front rest bound = record {
-    behind = let b = c.behind in omega arith;
-    same = len ∙ c.same;
-    rest = drop_more live' live (kept + 1) (k + 1) (let b = c.behind in omega arith) rest ∙ drop_more live init k (k + 1) (omega arith) c.rest;
-    front = ap (λ t. t ++ keep runs (drop (k + 1) init)) front ∙ keep_cond runs (get_or live k 0) (take kept live) (drop (k + 1) init) goes
+  behind = let b = c.behind in omega arith;
+  same = len ∙ c.same;
+  rest = drop_more live' live (kept + 1) (k + 1) (let b = c.behind in omega arith) rest ∙ drop_more live init k (k + 1) (omega arith) c.rest;
+  front = ap (λ t. t ++ keep runs (drop (k + 1) init)) front ∙ keep_cond runs (get_or live k 0) (take kept live) (drop (k + 1) init) goes
       ∙ ap (λ b. take kept live ++ cond b (keep runs (drop (k + 1) init)) (get_or live k 0 ∷ keep runs (drop (k + 1) init))) d
       ∙ ap (λ x. take kept live ++ cond (is_shut (run_at runs x).stage) (keep runs (drop (k + 1) init)) (x ∷ keep runs (drop (k + 1) init))) (same_at live init k h (let s = c.same in omega arith) c.rest)
       ∙ ap (λ l. take kept live ++ keep runs l) (sym (cons_at init k (let s = c.same in omega arith))) ∙ c.front;
-  }
+}
 
 pub truncated : (items' live' y : List ℕ) (kept len : ℕ) → items' ≡ take kept (take len (live' ++ y)) → kept ≤ length live' → kept ≤ len → items' ≡ take kept live'
 truncated items' live' y kept len e h k = e ∙ shorter kept len (live' ++ y) k ∙ take-append-le kept live' y h

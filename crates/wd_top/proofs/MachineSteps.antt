@@ -47,53 +47,53 @@ other_number n m ne = grind (arith, nat_tests)
 find_push : {X : Type 0} (p : X → Bool) (xs : List X) (x : X) → find p xs ≡ None → p x ≡ true → find p (xs ++ x ∷ []) ≡ Some x
 find_push p [] x e h = rw h refl
 find_push p (y ∷ ys) x e h = elim (p y) as (λ b. (if b then Some y else find p ys) ≡ None → (if b then Some y else find p (ys ++ x ∷ [])) ≡ Some x) [
-    | true ↦ λ e. cc
-    | false ↦ λ e. find_push p ys x e h
-  ] e
+  | true ↦ λ e. cc
+  | false ↦ λ e. find_push p ys x e h
+] e
 
 place_push : {X : Type 0} (p : X → Bool) (xs : List X) (x : X) (n : ℕ) → find p xs ≡ None → p x ≡ true → position_from p n (xs ++ x ∷ []) ≡ Some (n + length xs)
 place_push p [] x n e h = let z : n ≡ n + 0 = omega arith in rw h (ap Some z)
 place_push p (y ∷ ys) x n e h = elim (p y) as (λ b. (if b then Some y else find p ys) ≡ None → (if b then Some n else position_from p (n + 1) (ys ++ x ∷ [])) ≡ Some (n + length (y ∷ ys))) [
-    | true ↦ λ e. cc
-    | false ↦ λ e. let z : (n + 1) + length ys ≡ n + length (y ∷ ys) = omega arith in place_push p ys x (n + 1) e h ∙ ap Some z
-  ] e
+  | true ↦ λ e. cc
+  | false ↦ λ e. let z : (n + 1) + length ys ≡ n + length (y ∷ ys) = omega arith in place_push p ys x (n + 1) e h ∙ ap Some z
+] e
 
 change_push : {X : Type 0} (p : X → Bool) (f : X → X) (xs : List X) (x : X) → find p xs ≡ None → p x ≡ true → change p f (xs ++ x ∷ []) ≡ xs ++ f x ∷ []
 change_push p f [] x e h = rw h refl
 change_push p f (y ∷ ys) x e h = elim (p y) as (λ b. (if b then Some y else find p ys) ≡ None → (if b then f y ∷ (ys ++ x ∷ []) else y ∷ change p f (ys ++ x ∷ [])) ≡ y ∷ (ys ++ f x ∷ [])) [
-    | true ↦ λ e. cc
-    | false ↦ λ e. ap (λ zs. y ∷ zs) (change_push p f ys x e h)
-  ] e
+  | true ↦ λ e. cc
+  | false ↦ λ e. ap (λ zs. y ∷ zs) (change_push p f ys x e h)
+] e
 
 -- A CHANGE OF THE FIRST ROW THAT PASSES
 
 find_passes : {X : Type 0} (p : X → Bool) (xs : List X) (x : X) → find p xs ≡ Some x → p x ≡ true
 find_passes p [] x e = cc
 find_passes p (y ∷ ys) x e = elim (p y) as (λ b. p y ≡ b → (if b then Some y else find p ys) ≡ Some x → p x ≡ true) [
-    | true ↦ λ h e. let s : y ≡ x = cc in ap p (sym s) ∙ h
-    | false ↦ λ h e. find_passes p ys x e
-  ] refl e
+  | true ↦ λ h e. let s : y ≡ x = cc in ap p (sym s) ∙ h
+  | false ↦ λ h e. find_passes p ys x e
+] refl e
 
 find_changed : {X : Type 0} (p : X → Bool) (f : X → X) (xs : List X) (x : X) → p (f x) ≡ p x → find p xs ≡ Some x → find p (change p f xs) ≡ Some (f x)
 find_changed p f [] x k e = cc
 find_changed p f (y ∷ ys) x k e = elim (p y) as (λ b. p y ≡ b → (if b then Some y else find p ys) ≡ Some x → find p (if b then f y ∷ ys else y ∷ change p f ys) ≡ Some (f x)) [
-    | true ↦ λ h e. let s : y ≡ x = cc in let passes : p (f y) ≡ true = ap (λ z. p (f z)) s ∙ k ∙ ap p (sym s) ∙ h in rw passes (ap (λ z. Some (f z)) s)
-    | false ↦ λ h e. rw h (find_changed p f ys x k e)
-  ] refl e
+  | true ↦ λ h e. let s : y ≡ x = cc in let passes : p (f y) ≡ true = ap (λ z. p (f z)) s ∙ k ∙ ap p (sym s) ∙ h in rw passes (ap (λ z. Some (f z)) s)
+  | false ↦ λ h e. rw h (find_changed p f ys x k e)
+] refl e
 
 place_changed : {X : Type 0} (p : X → Bool) (f : X → X) (xs : List X) (n : ℕ) → ((x : X) → p (f x) ≡ p x) → position_from p n (change p f xs) ≡ position_from p n xs
 place_changed p f [] n k = refl
 place_changed p f (y ∷ ys) n k = elim (p y) as (λ b. p y ≡ b → position_from p n (if b then f y ∷ ys else y ∷ change p f ys) ≡ (if b then Some n else position_from p (n + 1) ys)) [
-    | true ↦ λ h. let passes : p (f y) ≡ true = k y ∙ h in rw passes refl
-    | false ↦ λ h. rw h (place_changed p f ys (n + 1) k)
-  ] refl
+  | true ↦ λ h. let passes : p (f y) ≡ true = k y ∙ h in rw passes refl
+  | false ↦ λ h. rw h (place_changed p f ys (n + 1) k)
+] refl
 
 pub found_place : {X : Type 0} (p : X → Bool) (xs : List X) (n i : ℕ) → position_from p n xs ≡ Some i → (x : X) × (find p xs ≡ Some x)
 found_place p [] n i e = cc
 found_place p (y ∷ ys) n i e = elim (p y) as (λ b. (if b then Some n else position_from p (n + 1) ys) ≡ Some i → (x : _) × ((if b then Some y else find p ys) ≡ Some x)) [
-    | true ↦ λ e. (y, refl)
-    | false ↦ λ e. found_place p ys (n + 1) i e
-  ] e
+  | true ↦ λ e. (y, refl)
+  | false ↦ λ e. found_place p ys (n + 1) i e
+] e
 
 -- REQUESTS AND WORKERS
 
@@ -108,23 +108,23 @@ rows_push n (y ∷ ys) r (h, x) e = (h, rows_push (n + 1) ys r x (omega (arith, 
 idle_found : {I : Type 0} (p : WorkerState I → Bool) (ws : List (WorkerState I)) (w : WorkerState I) → AreIdle ws → find p ws ≡ Some w → (w.holder ≡ None) × (w.waiters ≡ [])
 idle_found p [] w a e = cc
 idle_found p (y ∷ ys) w (h, k, a) e = elim (p y) as (λ b. (if b then Some y else find p ys) ≡ Some w → (w.holder ≡ None) × (w.waiters ≡ [])) [
-    | true ↦ λ e. let s : y ≡ w = cc in (ap (λ v. v.holder) (sym s) ∙ h, ap (λ v. v.waiters) (sym s) ∙ k)
-    | false ↦ λ e. idle_found p ys w a e
-  ] e
+  | true ↦ λ e. let s : y ≡ w = cc in (ap (λ v. v.holder) (sym s) ∙ h, ap (λ v. v.waiters) (sym s) ∙ k)
+  | false ↦ λ e. idle_found p ys w a e
+] e
 
 idle_changed : {I : Type 0} (p : WorkerState I → Bool) (f : WorkerState I → WorkerState I) (ws : List (WorkerState I)) → ((w : WorkerState I) → ((f w).holder ≡ None) × ((f w).waiters ≡ [])) → AreIdle ws → AreIdle (change p f ws)
 idle_changed p f [] k a = tt
 idle_changed p f (y ∷ ys) k (h, j, a) = elim (p y) as (λ b. AreIdle (if b then f y ∷ ys else y ∷ change p f ys)) [
-    | true ↦ ((k y).0, (k y).1, a)
-    | false ↦ (h, j, idle_changed p f ys k a)
-  ]
+  | true ↦ ((k y).0, (k y).1, a)
+  | false ↦ (h, j, idle_changed p f ys k a)
+]
 
 change_twice : {X : Type 0} (p : X → Bool) (f g : X → X) (xs : List X) → ((x : X) → p (f x) ≡ p x) → change p g (change p f xs) ≡ change p (λ x. g (f x)) xs
 change_twice p f g [] k = refl
 change_twice p f g (y ∷ ys) k = elim (p y) as (λ b. p y ≡ b → change p g (if b then f y ∷ ys else y ∷ change p f ys) ≡ (if b then g (f y) ∷ ys else y ∷ change p (λ x. g (f x)) ys)) [
-    | true ↦ λ h. let passes : p (f y) ≡ true = k y ∙ h in rw passes refl
-    | false ↦ λ h. rw h (ap (λ zs. y ∷ zs) (change_twice p f g ys k))
-  ] refl
+  | true ↦ λ h. let passes : p (f y) ≡ true = k y ∙ h in rw passes refl
+  | false ↦ λ h. rw h (ap (λ zs. y ∷ zs) (change_twice p f g ys k))
+] refl
 
 -- ARRIVAL
 
@@ -157,19 +157,19 @@ changed_row s n q r f h e same = change_push (is_request q.0) f s.requests r (no
 pub places_hold : {I : Type 0} (s : State I) (n : ℕ) (q : Req) (service : List ℕ) (r : RequestState) (ws : List (WorkerState I)) (rows : List RequestState) (place : ℕ) → Rests s n → q.0 ≡ n + 1 → r.req ≡ q → r.service ≡ service → rows ≡ s.requests ++ r ∷ []
     → position_from (is_worker service) 0 ws ≡ Some place → ArePlaces ws rows (record { req = q; row = Some n; worker = Some place })
 places_hold s n q service r ws rows place h e same at is found = record {
-    row = ap (position_from (is_request q.0) 0) is ∙ arrived_place s n q r h e same;
-    worker = ap (λ o. position_from (is_worker (row_service o)) 0 ws) (ap (request_of q.0) is ∙ arrived_row s n q r h e same) ∙ ap (λ t. position_from (is_worker t) 0 ws) at ∙ found;
-  }
+  row = ap (position_from (is_request q.0) 0) is ∙ arrived_place s n q r h e same;
+  worker = ap (λ o. position_from (is_worker (row_service o)) 0 ws) (ap (request_of q.0) is ∙ arrived_row s n q r h e same) ∙ ap (λ t. position_from (is_worker t) 0 ws) at ∙ found;
+}
 
 -- a Worker that is not there leaves the state at rest
 pub rests_arrived : {I : Type 0} (s : State I) (n : ℕ) (q : Req) (service : List ℕ) (link : LinkNo) (request : ReqData) → Rests s n → q.0 ≡ n + 1 → position_from (is_worker service) 0 s.workers ≡ None → Rests (after_arrival s q service link request) q.0
 rests_arrived s n q service link request h e none = record {
-    rows = rows_push 0 s.requests (new_row q service link) h.rows (omega (arith, e, h.count));
-    count = length-append s.requests _ ∙ ap (λ k. k + 1) h.count ∙ sym e;
-    running = h.running;
-    due = h.due;
-    idle = subst AreIdle (sym (change_none (is_worker service) _ s.workers none)) h.idle;
-  }
+  rows = rows_push 0 s.requests (new_row q service link) h.rows (omega (arith, e, h.count));
+  count = length-append s.requests _ ∙ ap (λ k. k + 1) h.count ∙ sym e;
+  running = h.running;
+  due = h.due;
+  idle = subst AreIdle (sym (change_none (is_worker service) _ s.workers none)) h.idle;
+}
 
 -- BEGIN
 
@@ -188,7 +188,7 @@ begin_allowed {I = I} world s n q service link request w h e found =
     let free = idle_found (is_worker service) s.workers w h.idle found in
     let worker : worker_of service (change (is_worker service) (waits_too x) s.workers) ≡ Some (waits_too x w) = find_changed (is_worker service) (waits_too x) s.workers w refl found in
     begin_ok (request_of q.0 (s.requests ++ new_row q service link ∷ [])) (worker_for (request_of q.0 (s.requests ++ new_row q service link ∷ [])) (change (is_worker service) (waits_too x) s.workers)) s.running s.due q (new_row q service link) (waits_too x w) x
-      row refl refl (ap (λ o. worker_for o (change (is_worker service) (waits_too x) s.workers)) row ∙ worker) (ap (λ ws. ws ++ x ∷ []) free.1) refl free.0 h.running h.due
+    row refl refl (ap (λ o. worker_for o (change (is_worker service) (waits_too x) s.workers)) row ∙ worker) (ap (λ ws. ws ++ x ∷ []) free.1) refl free.0 h.running h.due
 
 -- what the isolate's turn gives
 abbrev pub turn_of : {I : Type 0} → Meaning I → Req → List ℕ → LinkNo → ReqData → WorkerState I → TurnGives I
@@ -222,7 +222,7 @@ turning_worker : {I : Type 0} (m : Meaning I) (s : State I) (q : Req) (service :
 turning_worker m s q service link request w found =
     let x : Waiter = record { req = q; wake = Start request } in
     find_changed (is_worker service) (taken_by q (turn_of m q service link request w).isolate []) (change (is_worker service) (waits_too x) s.workers) (waits_too x w) refl
-      (find_changed (is_worker service) (waits_too x) s.workers w refl found)
+    (find_changed (is_worker service) (waits_too x) s.workers w refl found)
 
 -- the request and its Worker stand where they stood
 pub arrival_places : {I : Type 0} (s : State I) (n : ℕ) (q : Req) (service : List ℕ) (link : LinkNo) (request : ReqData) (place : ℕ) → Rests s n → q.0 ≡ n + 1 → position_from (is_worker service) 0 s.workers ≡ Some place
@@ -236,7 +236,7 @@ pub turn_places : {I : Type 0} (m : Meaning I) (s : State I) (n : ℕ) (q : Req)
 turn_places m s n q service link request w place h e found =
     let x : Waiter = record { req = q; wake = Start request } in
     places_hold s n q service (turning_row m q service link request w) (while_turn m s q service link request w).workers (while_turn m s q service link request w).requests place h e refl refl (turning_rows m s n q service link request w h e)
-      (place_changed (is_worker service) (taken_by q (turn_of m q service link request w).isolate []) (change (is_worker service) (waits_too x) s.workers) 0 (λ y. refl) ∙ place_changed (is_worker service) (waits_too x) s.workers 0 (λ y. refl) ∙ found)
+    (place_changed (is_worker service) (taken_by q (turn_of m q service link request w).isolate []) (change (is_worker service) (waits_too x) s.workers) 0 (λ y. refl) ∙ place_changed (is_worker service) (waits_too x) s.workers 0 (λ y. refl) ∙ found)
 
 -- the `Out` of the turn's entry
 abbrev pub out_of : {I : Type 0} → Meaning I → Req → List ℕ → LinkNo → ReqData → WorkerState I → Out
@@ -270,7 +270,7 @@ turn_allowed m world s n q service link request w h e found =
     let gives = turn_of m q service link request w in
     let row : request_of q.0 s2.requests ≡ Some r = ap (request_of q.0) (turning_rows m s n q service link request w h e) ∙ arrived_row s n q r h e refl in
     turn_ok (request_of q.0 s2.requests) (worker_for (request_of q.0 s2.requests) s2.workers) s2.running q r (record { objects = gives.objects; out = gives.out }) (taken_by q gives.isolate [] (waits_too (record { req = q; wake = Start request }) w)) (out_of m q service link request w)
-      row refl (ap (λ o. worker_for o s2.workers) row ∙ turning_worker m s q service link request w found) refl (ap (λ rs. rs ++ record { seat = the_seat; req = q } ∷ []) h.running) refl
+    row refl (ap (λ o. worker_for o s2.workers) row ∙ turning_worker m s q service link request w found) refl (ap (λ rs. rs ++ record { seat = the_seat; req = q } ∷ []) h.running) refl
 
 -- after the turn the state is at rest
 pub rests_turned : {I : Type 0} (m : Meaning I) (s : State I) (n : ℕ) (q : Req) (service : List ℕ) (link : LinkNo) (request : ReqData) (w : WorkerState I) → Rests s n → q.0 ≡ n + 1 → worker_of service s.workers ≡ Some w
@@ -279,18 +279,25 @@ rests_turned {I = I} m s n q service link request w h e found = subst (λ t. Res
   where
     s2 : State I
     s2 = while_turn m s q service link request w
+
     r : RequestState
     r = turning_row m q service link request w
+
     p : Pending
     p = record { objects = (turn_of m q service link request w).objects; out = (turn_of m q service link request w).out }
+
     waiting : Bool
     waiting = waits_in q.0 (waiters_at (worker_of service s2.workers))
+
     is : turned s2 the_seat q ≡ turned_with s2 the_seat r waiting p
     is = ap (turned_by s2 the_seat) (ap (request_of q.0) (turning_rows m s n q service link request w h e) ∙ arrived_row s n q r h e refl)
+
     rows : (turned_with s2 the_seat r waiting p).requests ≡ s.requests ++ has_turned waiting p r ∷ []
     rows = ap (change (is_request q.0) (has_turned waiting p)) (turning_rows m s n q service link request w h e) ∙ changed_row s n q r (has_turned waiting p) h e refl
+
     back : (f : WorkerState I) → ((given_back (ends r waiting p.out) q.0 (taken_by q (turn_of m q service link request w).isolate [] (waits_too (record { req = q; wake = Start request }) f))).waiters ≡ [])
     back f = elim (ends r waiting p.out) as (λ b. (given_back b q.0 (taken_by q (turn_of m q service link request w).isolate [] (waits_too (record { req = q; wake = Start request }) f))).waiters ≡ []) [ true ↦ refl | false ↦ refl ]
+
     rests : Rests (turned_with s2 the_seat r waiting p) q.0
     rests = record {
       rows = subst (λ x. RowsFrom 0 x) (sym rows) (rows_push 0 s.requests (has_turned waiting p r) h.rows (omega (arith, e, h.count)));
@@ -299,5 +306,5 @@ rests_turned {I = I} m s n q service link request w h e found = subst (λ t. Res
       due = h.due;
       idle = subst AreIdle (sym (ap (change (is_worker service) (given_back (ends r waiting p.out) q.0)) (change_twice (is_worker service) (waits_too (record { req = q; wake = Start request })) (taken_by q (turn_of m q service link request w).isolate []) s.workers (λ y. refl))
           ∙ change_twice (is_worker service) (λ y. taken_by q (turn_of m q service link request w).isolate [] (waits_too (record { req = q; wake = Start request }) y)) (given_back (ends r waiting p.out) q.0) s.workers (λ y. refl)))
-        (idle_changed (is_worker service) _ s.workers (λ y. (refl, back y)) h.idle);
+          (idle_changed (is_worker service) _ s.workers (λ y. (refl, back y)) h.idle);
     }

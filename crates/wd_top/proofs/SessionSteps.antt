@@ -106,17 +106,43 @@ front : (s x : List ℕ) (k : ℕ) → k ≤ length x → s ++ take k x ≡ take
 front s x k h = rw (length-append, length-take-le k x h) (sym (take-append-add s x k))
 
 pub reading_sent : (service : List ℕ) (l : LinkState) (t : Talk) (rest : List ℕ) (c : Bool) (text : List ℕ) (k : ℕ) → k ≡ length text → Reading service l t rest c text → Reading service (with_sent (take k text) l) t rest c []
-reading_sent service l t rest c text k e x = record { requests = x.requests; reads = x.reads; closes = x.closes; arrived = x.arrived; placed = x.placed; orderly = x.orderly; answers = x.answers;
-    sent = x.sent ∙ ap (λ b. l.sent ++ b) (sym (take_all k text (omega arith))) ∙ sym (append-nil _) }
+reading_sent service l t rest c text k e x = record {
+  requests = x.requests;
+  reads = x.reads;
+  closes = x.closes;
+  arrived = x.arrived;
+  placed = x.placed;
+  orderly = x.orderly;
+  answers = x.answers;
+  sent = x.sent ∙ ap (λ b. l.sent ++ b) (sym (take_all k text (omega arith))) ∙ sym (append-nil _);
+}
 
 pub carries_part : (service : List ℕ) (l : LinkState) (t : Talk) (rest : List ℕ) (c : Bool) (text : List ℕ) (k : ℕ) → k ≤ length text → Reading service l t rest c text → Carries service (with_sent (take k text) l) t
-carries_part service l t rest c text k h x = record { requests = x.requests; rest = rest; reads = x.reads; arrived = x.arrived; placed = x.placed; orderly = x.orderly; tail = None; fault = tt;
-    sent = front l.sent text k h ∙ ap (take (length (l.sent ++ take k text))) (sym x.sent ∙ sym (append-nil _)) }
+carries_part service l t rest c text k h x = record {
+  requests = x.requests;
+  rest = rest;
+  reads = x.reads;
+  arrived = x.arrived;
+  placed = x.placed;
+  orderly = x.orderly;
+  tail = None;
+  fault = tt;
+  sent = front l.sent text k h ∙ ap (take (length (l.sent ++ take k text))) (sym x.sent ∙ sym (append-nil _));
+}
 
 -- nothing is due
 pub carries_all : (service : List ℕ) (l : LinkState) (t : Talk) (rest : List ℕ) (c : Bool) → Reading service l t rest c [] → Carries service l t
-carries_all service l t rest c x = record { requests = x.requests; rest = rest; reads = x.reads; arrived = x.arrived; placed = x.placed; orderly = x.orderly; tail = None; fault = tt;
-    sent = sym (take-length l.sent) ∙ ap (take (length l.sent)) (sym (append-nil l.sent) ∙ sym x.sent ∙ sym (append-nil _)) }
+carries_all service l t rest c x = record {
+  requests = x.requests;
+  rest = rest;
+  reads = x.reads;
+  arrived = x.arrived;
+  placed = x.placed;
+  orderly = x.orderly;
+  tail = None;
+  fault = tt;
+  sent = sym (take-length l.sent) ∙ ap (take (length l.sent)) (sym (append-nil l.sent) ∙ sym x.sent ∙ sym (append-nil _));
+}
 
 -- a request has arrived, and memory ran out before its reply
 pub carries_asked : (service : List ℕ) (l : LinkState) (t t' : Talk) (run : LinkRun) (r : ReqData) (c : Bool) (q : ℕ) → Asks service l t r c run → t' ≡ add_row (record { req = q; service = service; request = r; reply = None }) t → Carries service l t'
@@ -137,23 +163,58 @@ carries_asked service l t t' run r c q a e =
 
 -- the last request closes
 pub whole_closed : (service : List ℕ) (l : LinkState) (t : Talk) (rest : List ℕ) → Reading service l t rest true [] → IsWhole service l t
-whole_closed service l t rest x = record { requests = x.requests; end = None; of = record { rest = rest; reads = x.reads; ends = subst (λ b. EndsAs b rest None) (sym x.closes) refl };
-    arrived = x.arrived; placed = x.placed; orderly = x.orderly; answers = x.answers; over = inr (inl x.closes); sent = sym (append-nil l.sent) ∙ sym x.sent ∙ sym (append-nil _) }
+whole_closed service l t rest x = record {
+  requests = x.requests;
+  end = None;
+  of = record { rest = rest; reads = x.reads; ends = subst (λ b. EndsAs b rest None) (sym x.closes) refl };
+  arrived = x.arrived;
+  placed = x.placed;
+  orderly = x.orderly;
+  answers = x.answers;
+  over = inr (inl x.closes);
+  sent = sym (append-nil l.sent) ∙ sym x.sent ∙ sym (append-nil _);
+}
 
 -- the bytes ended
 pub whole_ended : (service : List ℕ) (l : LinkState) (t : Talk) (rest : List ℕ) → Reading service l t rest false [] → IsUnfinished rest → l.ended ≡ true → IsWhole service l t
-whole_ended service l t rest x u e = record { requests = x.requests; end = None; of = record { rest = rest; reads = x.reads; ends = subst (λ b. EndsAs b rest None) (sym x.closes) u };
-    arrived = x.arrived; placed = x.placed; orderly = x.orderly; answers = x.answers; over = inl e; sent = sym (append-nil l.sent) ∙ sym x.sent ∙ sym (append-nil _) }
+whole_ended service l t rest x u e = record {
+  requests = x.requests;
+  end = None;
+  of = record { rest = rest; reads = x.reads; ends = subst (λ b. EndsAs b rest None) (sym x.closes) u };
+  arrived = x.arrived;
+  placed = x.placed;
+  orderly = x.orderly;
+  answers = x.answers;
+  over = inl e;
+  sent = sym (append-nil l.sent) ∙ sym x.sent ∙ sym (append-nil _);
+}
 
 -- the bytes are no request
 pub whole_refused : (service : List ℕ) (l : LinkState) (t : Talk) (rest : List ℕ) (code k : ℕ) → k ≡ length (tail_text (Some code)) → Reading service l t rest false [] → IsFault rest code → IsWhole service (with_sent (take k (tail_text (Some code))) l) t
-whole_refused service l t rest code k e x f = record { requests = x.requests; end = Some code; of = record { rest = rest; reads = x.reads; ends = subst (λ b. EndsAs b rest (Some code)) (sym x.closes) f };
-    arrived = x.arrived; placed = x.placed; orderly = x.orderly; answers = x.answers; over = inr (inr refl);
-    sent = ap₂ (λ a b. a ++ b) (sym (append-nil l.sent) ∙ sym x.sent) (take_all k (tail_text (Some code)) (omega arith)) }
+whole_refused service l t rest code k e x f = record {
+  requests = x.requests;
+  end = Some code;
+  of = record { rest = rest; reads = x.reads; ends = subst (λ b. EndsAs b rest (Some code)) (sym x.closes) f };
+  arrived = x.arrived;
+  placed = x.placed;
+  orderly = x.orderly;
+  answers = x.answers;
+  over = inr (inr refl);
+  sent = ap₂ (λ a b. a ++ b) (sym (append-nil l.sent) ∙ sym x.sent) (take_all k (tail_text (Some code)) (omega arith));
+}
 
 pub carries_refused : (service : List ℕ) (l : LinkState) (t : Talk) (rest : List ℕ) (code k : ℕ) → k ≤ length (tail_text (Some code)) → Reading service l t rest false [] → IsFault rest code → Carries service (with_sent (take k (tail_text (Some code))) l) t
-carries_refused service l t rest code k h x f = record { requests = x.requests; rest = rest; reads = x.reads; arrived = x.arrived; placed = x.placed; orderly = x.orderly; tail = Some code; fault = (x.answers, x.closes, f);
-    sent = front l.sent (tail_text (Some code)) k h ∙ ap (λ s. take (length (l.sent ++ take k (tail_text (Some code)))) (s ++ tail_text (Some code))) (sym (append-nil l.sent) ∙ sym x.sent) }
+carries_refused service l t rest code k h x f = record {
+  requests = x.requests;
+  rest = rest;
+  reads = x.reads;
+  arrived = x.arrived;
+  placed = x.placed;
+  orderly = x.orderly;
+  tail = Some code;
+  fault = (x.answers, x.closes, f);
+  sent = front l.sent (tail_text (Some code)) k h ∙ ap (λ s. take (length (l.sent ++ take k (tail_text (Some code)))) (s ++ tail_text (Some code))) (sym (append-nil l.sent) ∙ sym x.sent);
+}
 
 -- the link was shut
 pub carries_shut : (service : List ℕ) (l : LinkState) (t : Talk) → Carries service l t → Carries service (with_shut l) t

@@ -33,28 +33,28 @@ moves_on n sockets run run1 run2 i t t1 t2 j j' gone live h d0 =
     let s : List ℕ = service_at sockets run.socket in
     let d : Handles n s run1 run2 i end.Open t1 t2 j j' gone = subst (λ k. Handles n (service_at sockets k) run1 run2 i end.Open t1 t2 j j' gone) h.same.1 d0 in
     record {
-    change = λ l. d.change (h.change l);
-    tells = d.tells ∙ ap (on_link n d.change) h.tells ∙ twice n h.change d.change t;
-    origin = λ l. (d.stands (h.change l)).1 ∙ (h.stands l).1;
-    socket = d.same.1 ∙ h.same.1;
-    others = d.others;
-    here = λ l o. subst (λ x. TendedAs x s run2 (d.change (h.change l)) (talk 0 n.0 j') gone) (sym (d.same.0 ∙ h.same.0 ∙ live))
-      ((d.stands (h.change l)).0 ∙ (h.stands l).0 ∙ o.0, d.after (h.change l) (h.known s l (talk 0 n.0 j) o.1));
-  }
+      change = λ l. d.change (h.change l);
+      tells = d.tells ∙ ap (on_link n d.change) h.tells ∙ twice n h.change d.change t;
+      origin = λ l. (d.stands (h.change l)).1 ∙ (h.stands l).1;
+      socket = d.same.1 ∙ h.same.1;
+      others = d.others;
+      here = λ l o. subst (λ x. TendedAs x s run2 (d.change (h.change l)) (talk 0 n.0 j') gone) (sym (d.same.0 ∙ h.same.0 ∙ live))
+          ((d.stands (h.change l)).0 ∙ (h.stands l).0 ∙ o.0, d.after (h.change l) (h.known s l (talk 0 n.0 j) o.1));
+    }
 
 pub moves_over : (n : LinkNo) (sockets : List Socket) (run run1 run2 : LinkRun) (conn : Conn) (i : Heard) (t t1 t2 t3 : Told) (j j' : List Entry) (gone gone' : Type 0) → Hears n run run1 i t t1 → Handles n (service_at sockets run1.socket) run1 run2 i end.Over t1 t2 j j' gone → t3 ≡ shut_on n t2 → (gone → gone') → Moves n (service_at sockets run.socket) run (record run2 { stage = Shut; conn = conn }) t t3 j j' gone'
 moves_over n sockets run run1 run2 conn i t t1 t2 t3 j j' gone gone' h d0 e stays =
     let s : List ℕ = service_at sockets run.socket in
     let d : Handles n s run1 run2 i end.Over t1 t2 j j' gone = subst (λ k. Handles n (service_at sockets k) run1 run2 i end.Over t1 t2 j j' gone) h.same.1 d0 in
     record {
-    change = λ l. with_shut (d.change (h.change l));
-    tells = e ∙ ap (shut_on n) (d.tells ∙ ap (on_link n d.change) h.tells ∙ twice n h.change d.change t) ∙ shut_link n (λ l. d.change (h.change l)) t;
-    origin = λ l. (d.stands (h.change l)).1 ∙ (h.stands l).1;
-    socket = d.same.1 ∙ h.same.1;
-    others = d.others;
-    here = λ l o. let a = d.after (h.change l) (h.known s l (talk 0 n.0 j) o.1) in
-      (ap (λ k. k + 1) ((d.stands (h.change l)).0 ∙ (h.stands l).0 ∙ o.0), carries_shut s _ _ a.0, λ ng. whole_shut s _ _ (a.1 (λ g. ng (stays g))));
-  }
+      change = λ l. with_shut (d.change (h.change l));
+      tells = e ∙ ap (shut_on n) (d.tells ∙ ap (on_link n d.change) h.tells ∙ twice n h.change d.change t) ∙ shut_link n (λ l. d.change (h.change l)) t;
+      origin = λ l. (d.stands (h.change l)).1 ∙ (h.stands l).1;
+      socket = d.same.1 ∙ h.same.1;
+      others = d.others;
+      here = λ l o. let a = d.after (h.change l) (h.known s l (talk 0 n.0 j) o.1) in
+          (ap (λ k. k + 1) ((d.stands (h.change l)).0 ∙ (h.stands l).0 ∙ o.0), carries_shut s _ _ a.0, λ ng. whole_shut s _ _ (a.1 (λ g. ng (stays g))));
+    }
 
 left_carries : (e : StepEnd) (s : List ℕ) (l : LinkState) (t : Talk) (run : LinkRun) (gone : Type 0) → IsLeft e → After e s l t run gone → Carries s l t
 left_carries e s l t run gone (inl is) a = subst (λ x. After x s l t run gone) is a
@@ -65,13 +65,13 @@ moves_left n sockets run run1 run2 i e t t1 t2 j j' gone left h d0 =
     let s : List ℕ = service_at sockets run.socket in
     let d : Handles n s run1 run2 i e t1 t2 j j' gone = subst (λ k. Handles n (service_at sockets k) run1 run2 i e t1 t2 j j' gone) h.same.1 d0 in
     record {
-    change = λ l. d.change (h.change l);
-    tells = d.tells ∙ ap (on_link n d.change) h.tells ∙ twice n h.change d.change t;
-    origin = λ l. (d.stands (h.change l)).1 ∙ (h.stands l).1;
-    socket = d.same.1 ∙ h.same.1;
-    others = d.others;
-    here = λ l o. left_carries e s (d.change (h.change l)) (talk 0 n.0 j') run2 gone left (d.after (h.change l) (h.known s l (talk 0 n.0 j) o.1));
-  }
+      change = λ l. d.change (h.change l);
+      tells = d.tells ∙ ap (on_link n d.change) h.tells ∙ twice n h.change d.change t;
+      origin = λ l. (d.stands (h.change l)).1 ∙ (h.stands l).1;
+      socket = d.same.1 ∙ h.same.1;
+      others = d.others;
+      here = λ l o. left_carries e s (d.change (h.change l)) (talk 0 n.0 j') run2 gone left (d.after (h.change l) (h.known s l (talk 0 n.0 j) o.1));
+    }
 
 -- a link that was lost stays lost
 tended_stays : (g : Stage) (s : List ℕ) (run : LinkRun) (l : LinkState) (t : Talk) (gone gone' : Type 0) → (gone → gone') → TendedAs g s run l t gone → TendedAs g s run l t gone'
@@ -110,25 +110,27 @@ not_outside i count n e h (inr z) = omega arith
 pub tended_move : (n : LinkNo) (i : ℕ) (sockets : List Socket) (run run' : LinkRun) (t new : Told) (j j' : List Entry) (u u' gone gone' : LinkNo → Type 0) (runs : List LinkRun) → n.0 ≡ i + 1 → i < length runs → run ≡ run_at runs i → run.stage ≡ Open
     → Tended sockets t u gone j runs → Moves n (service_at sockets run.socket) run run' t new j j' (gone' n) → Stays gone gone' → ((m : LinkNo) → m.0 ≢ n.0 → u m → u' m) → (run'.stage ≡ Open → u' n) → Tended sockets new u' gone' j' (set runs i run')
 tended_move n i sockets run run' t new j j' u u' gone gone' runs e h is live all m stays keeps handle = record {
-    links = subst (λ k. IfSome k.links (AreTended sockets gone' j' (set runs i run'))) (sym m.tells) (step t.links all.links);
-    handle = λ k hk open_k. elim (cases_eq k i) [
-      | inl q ↦ subst u' (ap (λ x. record { 0 = x }) (e ∙ ap (λ x. x + 1) (sym q))) (handle (ap (λ r. r.stage) (sym (ap (run_at (set runs i run')) q ∙ get_or-set_same runs i run' blank_run h)) ∙ open_k))
-      | inr ne ↦ keeps (number k) (λ x. ne (omega (arith, x, e))) (all.handle k (rw length-set at hk) (ap (λ r. r.stage) (sym (get_or-set_other runs i k run' blank_run ne)) ∙ open_k))
-    ];
-    places = λ k hk. elim (cases_eq k i) [
-      | inl q ↦ subst (λ r. r.socket.0 < length sockets) (sym (ap (run_at (set runs i run')) q ∙ get_or-set_same runs i run' blank_run h)) (subst (λ x. x.0 < length sockets) (sym (m.socket ∙ ap (λ r. r.socket) is)) (all.places i h))
-      | inr ne ↦ subst (λ r. r.socket.0 < length sockets) (sym (get_or-set_other runs i k run' blank_run ne)) (all.places k (rw length-set at hk))
-    ];
-    quiet = λ k hk. let past : IsOutside (length runs) k = rw length-set at hk in m.others k (λ x. absurd (not_outside i (length runs) k (x ∙ e) h past)) ∙ all.quiet k past;
-    given = ap (λ k. k.given) m.tells ∙ all.given ∙ sym (length-set runs i run');
-  }
+  links = subst (λ k. IfSome k.links (AreTended sockets gone' j' (set runs i run'))) (sym m.tells) (step t.links all.links);
+  handle = λ k hk open_k. elim (cases_eq k i) [
+    | inl q ↦ subst u' (ap (λ x. record { 0 = x }) (e ∙ ap (λ x. x + 1) (sym q))) (handle (ap (λ r. r.stage) (sym (ap (run_at (set runs i run')) q ∙ get_or-set_same runs i run' blank_run h)) ∙ open_k))
+    | inr ne ↦ keeps (number k) (λ x. ne (omega (arith, x, e))) (all.handle k (rw length-set at hk) (ap (λ r. r.stage) (sym (get_or-set_other runs i k run' blank_run ne)) ∙ open_k))
+  ];
+  places = λ k hk. elim (cases_eq k i) [
+    | inl q ↦ subst (λ r. r.socket.0 < length sockets) (sym (ap (run_at (set runs i run')) q ∙ get_or-set_same runs i run' blank_run h)) (subst (λ x. x.0 < length sockets) (sym (m.socket ∙ ap (λ r. r.socket) is)) (all.places i h))
+    | inr ne ↦ subst (λ r. r.socket.0 < length sockets) (sym (get_or-set_other runs i k run' blank_run ne)) (all.places k (rw length-set at hk))
+  ];
+  quiet = λ k hk. let past : IsOutside (length runs) k = rw length-set at hk in m.others k (λ x. absurd (not_outside i (length runs) k (x ∙ e) h past)) ∙ all.quiet k past;
+  given = ap (λ k. k.given) m.tells ∙ all.given ∙ sym (length-set runs i run');
+}
   where
     here : (l : LinkState) → IsTended sockets (run_at runs i) l (talk 0 (i + 1) j) (gone' (number i)) → IsTended sockets run' (m.change l) (talk 0 (i + 1) j') (gone' (number i))
     here l x = subst (λ k. IsTended sockets run' (m.change l) (talk 0 k j') (gone' (record { 0 = k }))) e
-        (let y : IsTended sockets run l (talk 0 n.0 j) (gone' n) = subst (λ r. IsTended sockets r l (talk 0 n.0 j) (gone' n)) (sym is) (subst (λ k. IsTended sockets (run_at runs i) l (talk 0 k j) (gone' (record { 0 = k }))) (sym e) x) in
-          (m.origin l ∙ y.0 ∙ ap AtSocket (sym m.socket),
-           subst (λ k. TendedAs run'.stage (service_at sockets k) run' (m.change l) (talk 0 n.0 j') (gone' n)) (sym m.socket)
-             (m.here l (subst (λ g. TendedAs g (service_at sockets run.socket) run l (talk 0 n.0 j) (gone' n)) live y.1))))
+        (let y : IsTended sockets run l (talk 0 n.0 j) (gone' n) = subst (λ r. IsTended sockets r l (talk 0 n.0 j) (gone' n)) (sym is) (subst (λ k. IsTended sockets (run_at runs i) l (talk 0 k j) (gone' (record { 0 = k }))) (sym e) x) in (
+          m.origin l ∙ y.0 ∙ ap AtSocket (sym m.socket),
+          subst (λ k. TendedAs run'.stage (service_at sockets k) run' (m.change l) (talk 0 n.0 j') (gone' n)) (sym m.socket)
+              (m.here l (subst (λ g. TendedAs g (service_at sockets run.socket) run l (talk 0 n.0 j) (gone' n)) live y.1)),
+        ))
+
     step : (o : Option (List LinkState)) → IfSome o (AreTended sockets gone j runs) → IfSome (option_map (λ links. set links (n.0 - 1) (m.change (link_of links n))) o) (AreTended sockets gone' j' (set runs i run'))
     step None c = tt
     step (Some ls) c = let at : n.0 - 1 ≡ i = omega (arith, e) in
@@ -146,12 +148,12 @@ found_run xs i r h e = e ∙ default_free xs i r blank_run h
 -- nothing was told of the links
 pub tended_same : (sockets : List Socket) (t new : Told) (u u' gone gone' : LinkNo → Type 0) (j : List Entry) (runs : List LinkRun) → new.links ≡ t.links → new.given ≡ t.given → ((n : LinkNo) → u n → u' n) → Stays gone gone' → Tended sockets t u gone j runs → Tended sockets new u' gone' j runs
 tended_same sockets t new u u' gone gone' j runs e given keeps stays all = record {
-    links = subst (λ o. IfSome o (AreTended sockets gone' j runs)) (sym e) (step t.links all.links);
-    handle = λ i h o. keeps (number i) (all.handle i h o);
-    places = all.places;
-    quiet = all.quiet;
-    given = given ∙ all.given;
-  }
+  links = subst (λ o. IfSome o (AreTended sockets gone' j runs)) (sym e) (step t.links all.links);
+  handle = λ i h o. keeps (number i) (all.handle i h o);
+  places = all.places;
+  quiet = all.quiet;
+  given = given ∙ all.given;
+}
   where
     step : (o : Option (List LinkState)) → IfSome o (AreTended sockets gone j runs) → IfSome o (AreTended sockets gone' j runs)
     step None c = tt
@@ -175,16 +177,17 @@ tended_session sockets t u gone j runs all = step t.links all.links
         lt_or_le a zero = inr (omega arith)
         lt_or_le zero (suc b) = inl (omega arith)
         lt_or_le (suc a) (suc b) = elim (lt_or_le a b) [ inl h ↦ inl (omega arith) | inr h ↦ inr (omega arith) ]
+
     step : (o : Option (List LinkState)) → IfSome o (AreTended sockets gone j runs) → IfSome o (Session sockets j)
     step None c = tt
     step (Some ls) c = record {
-        each = λ i h. let x = c.1 i (rw (← c.0) h) in subst (λ o. CarriesFrom sockets o (get_or ls i blank) (talk 0 (i + 1) j)) (sym x.0) (carried (run_at runs i).stage _ (run_at runs i) _ _ _ x.1);
-        turns = λ n. orderly_means 0 n j (elim (outside n (length runs)) [
-          | inl past ↦ ap (λ k. k.orderly) (all.quiet n past)
-          | inr at ↦ subst (λ k. (talk 0 k j).orderly ≡ true) (sym at.0) ((carried (run_at runs (n - 1)).stage _ (run_at runs (n - 1)) _ _ _ (c.1 (n - 1) at.1).1).orderly)
-        ]);
-        others = λ n h. all.quiet n (rw (← c.0) h);
-      }
+      each = λ i h. let x = c.1 i (rw (← c.0) h) in subst (λ o. CarriesFrom sockets o (get_or ls i blank) (talk 0 (i + 1) j)) (sym x.0) (carried (run_at runs i).stage _ (run_at runs i) _ _ _ x.1);
+      turns = λ n. orderly_means 0 n j (elim (outside n (length runs)) [
+        | inl past ↦ ap (λ k. k.orderly) (all.quiet n past)
+        | inr at ↦ subst (λ k. (talk 0 k j).orderly ≡ true) (sym at.0) ((carried (run_at runs (n - 1)).stage _ (run_at runs (n - 1)) _ _ _ (c.1 (n - 1) at.1).1).orderly)
+      ]);
+      others = λ n h. all.quiet n (rw (← c.0) h);
+    }
 
 pub tended_done : (sockets : List Socket) (t : Told) (u gone : LinkNo → Type 0) (j : List Entry) (runs : List LinkRun) → Tended sockets t u gone j runs → AreShut runs → IfSome t.links (Done sockets gone j)
 tended_done sockets t u gone j runs all shut = step t.links all.links
@@ -236,24 +239,27 @@ outside_more count n (inr h) = inr (omega arith)
 
 pub tended_new : (k : SockNo) (m : LinkNo) (sockets : List Socket) (t new : Told) (u u' gone gone' : LinkNo → Type 0) (j : List Entry) (runs : List LinkRun) → m.0 ≡ t.given + 1 → k.0 < length sockets → new ≡ given_on (AtSocket k) t → u' m → ((n : LinkNo) → u n → u' n) → Stays gone gone' → Tended sockets t u gone j runs → Tended sockets new u' gone' j (runs ++ new_run k ∷ [])
 tended_new k m sockets t new u u' gone gone' j runs number_is place tells usable keeps stays all = record {
-    links = subst (λ x. IfSome x (AreTended sockets gone' j (runs ++ new_run k ∷ []))) (sym (ap (λ x. x.links) tells ∙ given_links (AtSocket k) t)) (step t.links all.links);
-    handle = λ i h live. elim (lt_or_last i (length runs) (rw length-append at h)) [
-      | inl below ↦ keeps (number i) (all.handle i below (ap (λ r. r.stage) (sym (old_run runs (new_run k) i below)) ∙ live))
-      | inr last ↦ subst u' (ap (λ x. record { 0 = x }) (number_is ∙ ap (λ x. x + 1) (all.given ∙ sym last))) usable
-    ];
-    places = λ i h. elim (lt_or_last i (length runs) (rw length-append at h)) [
-      | inl below ↦ subst (λ r. r.socket.0 < length sockets) (sym (old_run runs (new_run k) i below)) (all.places i below)
-      | inr last ↦ subst (λ r. r.socket.0 < length sockets) (sym (ap (run_at (runs ++ new_run k ∷ [])) last ∙ last_run runs (new_run k))) place
-    ];
-    quiet = λ n h. all.quiet n (outside_more (length runs) n (rw length-append at h));
-    given = ap (λ x. x.given) tells ∙ given_count (AtSocket k) t ∙ ap (λ x. x + 1) all.given ∙ sym (length-append runs (new_run k ∷ []));
-  }
+  links = subst (λ x. IfSome x (AreTended sockets gone' j (runs ++ new_run k ∷ []))) (sym (ap (λ x. x.links) tells ∙ given_links (AtSocket k) t)) (step t.links all.links);
+  handle = λ i h live. elim (lt_or_last i (length runs) (rw length-append at h)) [
+    | inl below ↦ keeps (number i) (all.handle i below (ap (λ r. r.stage) (sym (old_run runs (new_run k) i below)) ∙ live))
+    | inr last ↦ subst u' (ap (λ x. record { 0 = x }) (number_is ∙ ap (λ x. x + 1) (all.given ∙ sym last))) usable
+  ];
+  places = λ i h. elim (lt_or_last i (length runs) (rw length-append at h)) [
+    | inl below ↦ subst (λ r. r.socket.0 < length sockets) (sym (old_run runs (new_run k) i below)) (all.places i below)
+    | inr last ↦ subst (λ r. r.socket.0 < length sockets) (sym (ap (run_at (runs ++ new_run k ∷ [])) last ∙ last_run runs (new_run k))) place
+  ];
+  quiet = λ n h. all.quiet n (outside_more (length runs) n (rw length-append at h));
+  given = ap (λ x. x.given) tells ∙ given_count (AtSocket k) t ∙ ap (λ x. x + 1) all.given ∙ sym (length-append runs (new_run k ∷ []));
+}
   where
     fresh : LinkState
     fresh = new_link (AtSocket k)
+
     step : (x : Option (List LinkState)) → IfSome x (AreTended sockets gone j runs) → IfSome (option_map (λ links. links ++ fresh ∷ []) x) (AreTended sockets gone' j (runs ++ new_run k ∷ []))
     step None c = tt
-    step (Some ls) (same, each) = (length-append ls _ ∙ ap (λ x. x + 1) same ∙ sym (length-append runs _), λ i h. elim (lt_or_last i (length runs) (rw length-append at h)) [
+    step (Some ls) (same, each) = (
+      length-append ls _ ∙ ap (λ x. x + 1) same ∙ sym (length-append runs _),
+      λ i h. elim (lt_or_last i (length runs) (rw length-append at h)) [
         | inl below ↦ subst (λ r. IsTended sockets r (get_or (ls ++ fresh ∷ []) i blank) (talk 0 (i + 1) j) (gone' (number i))) (sym (old_run runs (new_run k) i below))
             (subst (λ l. IsTended sockets (run_at runs i) l (talk 0 (i + 1) j) (gone' (number i))) (sym (old_link ls fresh i (omega (arith, below, same))))
             (is_tended_stays sockets (run_at runs i) _ _ (gone (number i)) (gone' (number i)) (stays (number i)) (each i below)))
@@ -261,16 +267,17 @@ tended_new k m sockets t new u u' gone gone' j runs number_is place tells usable
             (subst (λ r. IsTended sockets r (get_or (ls ++ fresh ∷ []) (length runs) blank) (talk 0 (length runs + 1) j) (gone' (number (length runs)))) (sym (last_run runs (new_run k)))
             (subst (λ l. IsTended sockets (new_run k) l (talk 0 (length runs + 1) j) (gone' (number (length runs)))) (sym (ap (λ x. get_or (ls ++ fresh ∷ []) x blank) (sym same) ∙ last_link ls fresh))
             (subst (λ y. IsTended sockets (new_run k) fresh y (gone' (number (length runs)))) (sym (all.quiet (length runs + 1) (inr (omega arith)))) (refl, (refl, opened_new (service_at sockets k) k)))))
-      ])
+      ],
+    )
 
 pub tended_first : (sockets : List Socket) (t : Told) (u gone : LinkNo → Type 0) (j : List Entry) (runs : List LinkRun) → runs ≡ [] → j ≡ [] → IfSome t.links (λ links. links ≡ []) → t.given ≡ 0 → Tended sockets t u gone j runs
 tended_first sockets t u gone j runs e f links given = subst (λ r. Tended sockets t u gone j r) (sym e) (subst (λ x. Tended sockets t u gone x []) (sym f) (record {
-    links = step t.links links;
-    handle = λ i h. absurd (omega (arith, h));
-    places = λ i h. absurd (omega (arith, h));
-    quiet = λ n h. silent 0 n;
-    given = given;
-  }))
+  links = step t.links links;
+  handle = λ i h. absurd (omega (arith, h));
+  places = λ i h. absurd (omega (arith, h));
+  quiet = λ n h. silent 0 n;
+  given = given;
+}))
   where
     step : (o : Option (List LinkState)) → IfSome o (λ links. links ≡ []) → IfSome o (AreTended sockets gone [] [])
     step None c = tt

@@ -12,7 +12,6 @@ ghost use Rattle.wd_machine.specs.Steps.{arrived, begun, turned, turn_out};
 ghost use Rattle.wd_top.specs.Board.{the_seat, IsRun, Stands, Ends};
 ghost use Rattle.wd_top.specs.Session.{service_at};
 ghost use Rattle.wd_top.specs.Steps.{Answers};
-ghost use Rattle.wd_top.specs.Talk.{IsNumbered, IsOfSeat};
 
 use std::alloc::Global;
 use std::marker::Model;
@@ -60,11 +59,22 @@ fn service_of(alloc: Global, world: &World, socket: SockNo) -> Result<Bytes, NoM
     requires { socket.0 < length world.now.sockets }
     ensures { IfOk result (λ name. name ≡ service_at world.now.sockets socket) }
 {
-    world.sockets().as_slice()[socket.0 as usize].service.try_clone(alloc)
+    world.sockets().as_slice()[socket.0 as usize]
+        .service
+        .try_clone(alloc)
 }
 
 /// A request arrives over a link of seat 0; `worker` is the place of the service's Worker.
-fn arrive<I>(alloc: Global, machine: &mut Machine<I>, entries: &mut Entries, worker: Option<usize>, req: Req, service: &Bytes, link: LinkNo, request: ReqData) -> Result<(), NoMemory>
+fn arrive<I>(
+    alloc: Global,
+    machine: &mut Machine<I>,
+    entries: &mut Entries,
+    worker: Option<usize>,
+    req: Req,
+    service: &Bytes,
+    link: LinkNo,
+    request: ReqData,
+) -> Result<(), NoMemory>
     requires { position_from (is_worker service.now) 0 machine.old.workers ≡ worker }
     ensures state { OnOk result (machine.new ≡ arrived machine.old the_seat req service.now (Outside link) 1000 request) }
     ensures entries { OnOk result (entries.new ≡ entries.old ++ EntryIs.Arrive the_seat req service.now (Outside link) 1000 request ∷ []) }
@@ -79,12 +89,24 @@ fn arrive<I>(alloc: Global, machine: &mut Machine<I>, entries: &mut Entries, wor
         request: request.try_clone(alloc)?,
     };
     let service = service.try_clone(alloc)?;
-    machine.arrive(worker, Seat(0), req, service, Origin::Outside(link), ALLOWANCE, request)?;
+    machine.arrive(
+        worker,
+        Seat(0),
+        req,
+        service,
+        Origin::Outside(link),
+        ALLOWANCE,
+        request,
+    )?;
     entries.push(entry)
 }
 
 /// The turn of a request begins.
-fn begin<I: Isolate>(machine: &mut Machine<I>, entries: &mut Entries, places: Places) -> Result<(), NoMemory>
+fn begin<I: Isolate>(
+    machine: &mut Machine<I>,
+    entries: &mut Entries,
+    places: Places,
+) -> Result<(), NoMemory>
     requires { ArePlaces machine.old.workers machine.old.requests places }
     ensures state { OnOk result (machine.new ≡ begun I.means machine.old the_seat places.req) }
     ensures entries { OnOk result (entries.new ≡ entries.old ++ EntryIs.Begin the_seat places.req ∷ []) }
@@ -98,7 +120,12 @@ fn begin<I: Isolate>(machine: &mut Machine<I>, entries: &mut Entries, places: Pl
 }
 
 /// The turn of a request ends. It gives the request's reply, where the turn gave one.
-fn finish<I: Isolate>(alloc: Global, machine: &mut Machine<I>, entries: &mut Entries, places: Places) -> Result<Option<Reply>, NoMemory>
+fn finish<I: Isolate>(
+    alloc: Global,
+    machine: &mut Machine<I>,
+    entries: &mut Entries,
+    places: Places,
+) -> Result<Option<Reply>, NoMemory>
     requires { ArePlaces machine.old.workers machine.old.requests places }
     ensures state { OnOk result (machine.new ≡ turned machine.old the_seat places.req) }
     ensures entries { IfOk result (λ reply. Ends places.req (turn_out (request_of places.req.0 machine.old.requests) (worker_for (request_of places.req.0 machine.old.requests) machine.old.workers)) entries.old entries.new reply) }
@@ -118,7 +145,16 @@ fn finish<I: Isolate>(alloc: Global, machine: &mut Machine<I>, entries: &mut Ent
 
 /// A request, from its arrival to the end of its turn. It gives the reply, where the turn gave one.
 /// A service that is no Worker gives none.
-fn exchange<I: Isolate>(alloc: Global, world: &World, machine: &mut Machine<I>, entries: &mut Entries, count: u64, link: LinkNo, service: &Bytes, request: ReqData) -> Result<Option<Reply>, NoMemory>
+fn exchange<I: Isolate>(
+    alloc: Global,
+    world: &World,
+    machine: &mut Machine<I>,
+    entries: &mut Entries,
+    count: u64,
+    link: LinkNo,
+    service: &Bytes,
+    request: ReqData,
+) -> Result<Option<Reply>, NoMemory>
     requires run { IsRun I.means world.now entries.old }
     requires stands { Stands I.means world.now machine.old entries.old count }
     requires known { is_some (service_of service.now world.now.services) ≡ true }
@@ -128,7 +164,6 @@ fn exchange<I: Isolate>(alloc: Global, world: &World, machine: &mut Machine<I>, 
     ensures run { IsRun I.means world.now entries.new }
     ensures stands { OnOk result (Stands I.means world.now machine.new entries.new (count + 1)) }
 {
-    let _ = world;
     let req = Req(count + 1);
     let worker = machine.worker_place(service.as_slice());
     arrive(alloc, machine, entries, worker, req, service, link, request)?;
@@ -190,7 +225,13 @@ impl<I: Isolate> Board<I> {
     /// A request over a link that came at a socket, from its arrival to the end of its turn. It
     /// gives the request's reply as it stands in the journal, and None where the request has none.
     #[tactic(auto, using(crate::proofs::BoardSteps::unasked, crate::proofs::BoardSteps::service_known, crate::proofs::BoardSteps::service_public))]
-    pub fn answer(&mut self, alloc: Global, link: LinkNo, socket: SockNo, request: ReqData) -> Result<Option<Reply>, NoMemory>
+    pub fn answer(
+        &mut self,
+        alloc: Global,
+        link: LinkNo,
+        socket: SockNo,
+        request: ReqData,
+    ) -> Result<Option<Reply>, NoMemory>
         requires { socket.0 < length self.old.0.sockets }
         ensures answers { Answers link (service_at self.old.0.sockets socket) request self.old.1 self.new.1 result }
         ensures world { self.new.0 ≡ self.old.0 }
@@ -202,7 +243,16 @@ impl<I: Isolate> Board<I> {
             return Err(NoMemory);
         };
         self.stopped = true;
-        let reply = exchange(alloc, &self.world, &mut self.machine, &mut self.entries, self.count, link, &service, request)?;
+        let reply = exchange(
+            alloc,
+            &self.world,
+            &mut self.machine,
+            &mut self.entries,
+            self.count,
+            link,
+            &service,
+            request,
+        )?;
         self.count += 1;
         self.stopped = false;
         Ok(reply)

@@ -10,6 +10,5 @@ mod http_in;
 mod http_text;
 mod script;
 mod seat;
-
 #[cfg(test)]
 mod tests;

@@ -14,6 +14,7 @@ mod table;
 
 ghost use Rattle.std.specs.Prelude.{◌≡◌, ◌<◌, ◌^◌, [], length, true, OnOk, IfSome, IsTrue};
 ghost use Rattle.wd_ports.specs.Links.{Keeps, Stays};
+ghost use Rattle.wd_top.specs.declared.seat.table.Taken.{Taken as TakenIs};
 ghost use Rattle.wd_top.specs.Session.{Session, Done};
 ghost use Rattle.wd_top.specs.Steps.{NoneFell};
 ghost use Rattle.wd_top.specs.Table.{addresses};
@@ -27,19 +28,19 @@ use wd_base::NoMemory;
 use wd_machine::Isolate;
 use wd_ports::{Files, Port};
 
+/// No link is listed.
 fn is_empty(live: &Vec<usize>) -> bool
     ensures { IsTrue result → live.now.items ≡ [] }
 {
     live.is_empty()
 }
 
+/// No further link will come.
 fn is_closed(taken: Taken) -> bool
     ensures { IsTrue result → taken ≡ TakenIs.Closed }
 {
     taken == Taken::Closed
 }
-
-ghost use Rattle.wd_top.specs.declared.seat.table.Taken.{Taken as TakenIs};
 
 /// Waits, where there is nothing to do.
 fn wait_where<P: Port>(port: &mut P, quiet: bool)
@@ -60,7 +61,12 @@ fn wait_where<P: Port>(port: &mut P, quiet: bool)
 /// The links are tended in turn, one request of each in a round. It waits (`Port::idle`) only after
 /// a round in which no link came and nothing was heard of any.
 #[tactic(auto, using(crate::proofs::FaultSteps::none_fell_same, crate::proofs::FaultSteps::none_fell_then))]
-pub fn run<R: Wait, P: Port, I: Isolate>(rt: &R, alloc: Global, port: &mut P, board: &mut Board<I>) -> Result<(), NoMemory>
+pub fn run<R: Wait, P: Port, I: Isolate>(
+    rt: &R,
+    alloc: Global,
+    port: &mut P,
+    board: &mut Board<I>,
+) -> Result<(), NoMemory>
     requires sockets { (P.told port.old).sockets ≡ addresses board.old.0.sockets }
     requires links { IfSome (P.told port.old).links (λ links. links ≡ []) }
     requires given { (P.told port.old).given ≡ 0 }

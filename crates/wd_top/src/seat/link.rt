@@ -81,7 +81,13 @@ fn feed(alloc: Global, run: &mut LinkRun, piece: &[u8]) -> Heard
 /// The next request of the link, or what came instead. Bytes are read only where those that were
 /// read before hold no further request.
 #[tactic(auto, using(crate::proofs::FaultSteps::none_fell_same, crate::proofs::FaultSteps::read_blamed))]
-pub fn hear<P: Port>(port: &mut P, alloc: Global, run: &mut LinkRun, link: LinkNo, buf: &mut [u8; READ_SIZE]) -> Heard
+pub fn hear<P: Port>(
+    port: &mut P,
+    alloc: Global,
+    run: &mut LinkRun,
+    link: LinkNo,
+    buf: &mut [u8; READ_SIZE],
+) -> Heard
     requires { P.usable port.old link }
     ensures hears { Hears link run.old run.new result (P.told port.old) (P.told port.new) }
     ensures lost { result ≡ HeardIs.Lost → P.gone port.new link }
@@ -103,7 +109,14 @@ pub fn hear<P: Port>(port: &mut P, alloc: Global, run: &mut LinkRun, link: LinkN
 
 /// Sends a reply's text.
 #[tactic(auto, using(wd_ports::proofs::OneLink::sent_nothing, crate::proofs::FaultSteps::none_fell_same, crate::proofs::FaultSteps::written))]
-fn send<P: Port>(port: &mut P, alloc: Global, link: LinkNo, reply: &Reply, head: bool, close: bool) -> Result<(), Failed>
+fn send<P: Port>(
+    port: &mut P,
+    alloc: Global,
+    link: LinkNo,
+    reply: &Reply,
+    head: bool,
+    close: bool,
+) -> Result<(), Failed>
     requires usable { P.usable port.old link }
     ensures sends { Sends link (reply_text reply.now head close) result (P.told port.old) (P.told port.new) }
     ensures lost { IsErrOf result Failed.Fault → P.gone port.new link }
@@ -126,7 +139,15 @@ fn is_head(request: &ReqData) -> bool
 
 /// A request's arrival, its turn, and its reply's text on the link.
 #[tactic(auto, using(crate::proofs::FaultSteps::none_fell_same))]
-fn reply_to<P: Port, I: Isolate>(port: &mut P, alloc: Global, board: &mut Board<I>, link: LinkNo, socket: SockNo, request: ReqData, close: bool) -> StepEnd
+fn reply_to<P: Port, I: Isolate>(
+    port: &mut P,
+    alloc: Global,
+    board: &mut Board<I>,
+    link: LinkNo,
+    socket: SockNo,
+    request: ReqData,
+    close: bool,
+) -> StepEnd
     requires usable { P.usable port.old link }
     requires socket { socket.0 < length board.old.0.sockets }
     ensures replies { Replies link (service_at board.old.0.sockets socket) request close result (P.gone port.new link) (P.told port.old) (P.told port.new) board.old.1 board.new.1 }
@@ -175,7 +196,14 @@ fn end_of(written: Result<(), Failed>, close: bool) -> StepEnd
 
 /// Does what was heard of a link asks for.
 #[tactic(auto, using(crate::proofs::FaultSteps::none_fell_same))]
-pub fn handle<P: Port, I: Isolate>(port: &mut P, alloc: Global, board: &mut Board<I>, run: &mut LinkRun, link: LinkNo, heard: Heard) -> StepEnd
+pub fn handle<P: Port, I: Isolate>(
+    port: &mut P,
+    alloc: Global,
+    board: &mut Board<I>,
+    run: &mut LinkRun,
+    link: LinkNo,
+    heard: Heard,
+) -> StepEnd
     requires usable { P.usable port.old link }
     requires socket { run.old.socket.0 < length board.old.0.sockets }
     requires lost { heard ≡ HeardIs.Lost → P.gone port.old link }

@@ -1,6 +1,7 @@
 ghost use Rattle.std.specs.Prelude.{◌≡◌, ◌≢◌, ℕ, ◌+◌, ◌<◌, ◌≤◌, ◌^◌, [], ◌∷◌, ◌++◌, length, take, drop, cond, true, OnOk, OnErr, IfOk, IfSome, IsTrue, ◌↔◌};
 ghost use Rattle.wd_ports.specs.Links.{KeepsOthers, Stays};
 ghost use Rattle.wd_top.specs.declared.seat.link.Stage.{Stage as StageIs};
+ghost use Rattle.wd_top.specs.declared.seat.table.Taken.{Taken as TakenIs};
 ghost use Rattle.wd_top.specs.Session.{service_at, Session};
 ghost use Rattle.wd_top.specs.Steps.{Moves, NoneFell};
 ghost use Rattle.wd_top.specs.Table.{Tended, Kept, AreWithin, Covers, keep, is_shut, run_at, new_run};
@@ -23,7 +24,14 @@ fn is_news(heard: &Heard) -> bool {
 
 /// One step on an open link. It tells whether anything came.
 #[tactic(auto, using(crate::proofs::FaultSteps::none_fell_then))]
-fn tend_run<P: Port, I: Isolate>(port: &mut P, alloc: Global, board: &mut Board<I>, run: &mut LinkRun, link: LinkNo, buf: &mut [u8; READ_SIZE]) -> Result<bool, NoMemory>
+fn tend_run<P: Port, I: Isolate>(
+    port: &mut P,
+    alloc: Global,
+    board: &mut Board<I>,
+    run: &mut LinkRun,
+    link: LinkNo,
+    buf: &mut [u8; READ_SIZE],
+) -> Result<bool, NoMemory>
     requires usable { P.usable port.old link }
     requires open { run.old.stage ≡ StageIs.Open }
     requires socket { run.old.socket.0 < length board.old.0.sockets }
@@ -55,6 +63,7 @@ fn tend_run<P: Port, I: Isolate>(port: &mut P, alloc: Global, board: &mut Board<
     }
 }
 
+/// The seat still tends the link.
 fn is_open(run: &LinkRun) -> bool
     ensures { IsTrue result ↔ (run.now.stage ≡ StageIs.Open) }
 {
@@ -63,7 +72,14 @@ fn is_open(run: &LinkRun) -> bool
 
 /// Tends the link at a place of the table.
 #[tactic(auto, using(crate::proofs::FaultSteps::none_fell_same))]
-fn tend<P: Port, I: Isolate>(port: &mut P, alloc: Global, board: &mut Board<I>, runs: &mut Vec<LinkRun>, at: usize, buf: &mut [u8; READ_SIZE]) -> Result<bool, NoMemory>
+fn tend<P: Port, I: Isolate>(
+    port: &mut P,
+    alloc: Global,
+    board: &mut Board<I>,
+    runs: &mut Vec<LinkRun>,
+    at: usize,
+    buf: &mut [u8; READ_SIZE],
+) -> Result<bool, NoMemory>
     requires tended { Tended board.old.0.sockets (P.told port.old) (P.usable port.old) (P.gone port.old) board.old.1 runs.old.items }
     requires found { at < length runs.old.items }
     requires small { length runs.old.items < 2 ^ 32 }
@@ -83,7 +99,14 @@ fn tend<P: Port, I: Isolate>(port: &mut P, alloc: Global, board: &mut Board<I>, 
 
 /// Tends each link of the list once. It tells whether anything came.
 #[tactic(auto, using(crate::proofs::FaultSteps::none_fell_same, crate::proofs::FaultSteps::none_fell_then))]
-fn tend_listed<P: Port, I: Isolate>(port: &mut P, alloc: Global, board: &mut Board<I>, runs: &mut Vec<LinkRun>, live: &[usize], buf: &mut [u8; READ_SIZE]) -> Result<bool, NoMemory>
+fn tend_listed<P: Port, I: Isolate>(
+    port: &mut P,
+    alloc: Global,
+    board: &mut Board<I>,
+    runs: &mut Vec<LinkRun>,
+    live: &[usize],
+    buf: &mut [u8; READ_SIZE],
+) -> Result<bool, NoMemory>
     requires tended { Tended board.old.0.sockets (P.told port.old) (P.usable port.old) (P.gone port.old) board.old.1 runs.old.items }
     requires small { length runs.old.items < 2 ^ 32 }
     requires within { AreWithin live.now (length runs.old.items) }
@@ -103,6 +126,7 @@ fn tend_listed<P: Port, I: Isolate>(port: &mut P, alloc: Global, board: &mut Boa
     Ok(news)
 }
 
+/// The link was shut.
 fn is_shut(run: &LinkRun) -> bool
     ensures { result ≡ is_shut run.now.stage }
 {
@@ -113,6 +137,7 @@ fn is_shut(run: &LinkRun) -> bool
     }
 }
 
+/// The link at a place of the table was shut.
 fn is_shut_at(runs: &[LinkRun], at: usize) -> bool
     requires { at < length runs.now }
     ensures { result ≡ is_shut (run_at runs.now at).stage }
@@ -160,7 +185,14 @@ fn keep_live(runs: &[LinkRun], live: &mut Vec<usize>)
 
 /// Tends each link of the list once, and drops those that were shut. It tells whether anything
 /// came.
-pub fn tend_all<P: Port, I: Isolate>(port: &mut P, alloc: Global, board: &mut Board<I>, runs: &mut Vec<LinkRun>, live: &mut Vec<usize>, buf: &mut [u8; READ_SIZE]) -> Result<bool, NoMemory>
+pub fn tend_all<P: Port, I: Isolate>(
+    port: &mut P,
+    alloc: Global,
+    board: &mut Board<I>,
+    runs: &mut Vec<LinkRun>,
+    live: &mut Vec<usize>,
+    buf: &mut [u8; READ_SIZE],
+) -> Result<bool, NoMemory>
     requires tended { Tended board.old.0.sockets (P.told port.old) (P.usable port.old) (P.gone port.old) board.old.1 runs.old.items }
     requires small { length runs.old.items < 2 ^ 32 }
     requires within { AreWithin live.old.items (length runs.old.items) }
@@ -178,6 +210,7 @@ pub fn tend_all<P: Port, I: Isolate>(port: &mut P, alloc: Global, board: &mut Bo
     Ok(news)
 }
 
+/// What is kept of a link that was just accepted at a socket.
 fn fresh_run(alloc: Global, socket: SockNo) -> LinkRun
     ensures { result ≡ new_run socket }
 {
@@ -191,7 +224,12 @@ fn fresh_run(alloc: Global, socket: SockNo) -> LinkRun
 
 /// A place in the table and in the list for a new link.
 #[tactic(auto, using(crate::proofs::LiveSteps::within_new, crate::proofs::LiveSteps::covers_new))]
-fn add_run(alloc: Global, socket: SockNo, runs: &mut Vec<LinkRun>, live: &mut Vec<usize>) -> Result<(), NoMemory>
+fn add_run(
+    alloc: Global,
+    socket: SockNo,
+    runs: &mut Vec<LinkRun>,
+    live: &mut Vec<usize>,
+) -> Result<(), NoMemory>
     requires within { AreWithin live.old.items (length runs.old.items) }
     requires covers { Covers live.old.items runs.old.items }
     ensures ok { OnOk result (runs.new.items ≡ runs.old.items ++ new_run socket ∷ []) }
@@ -218,7 +256,13 @@ pub enum Taken {
 
 /// Takes a link, where one waits.
 #[tactic(auto, unfolding(wd_ports::specs::Told::given_on), using(crate::proofs::FaultSteps::none_fell_same))]
-pub fn take_link<P: Port, I: Isolate>(port: &mut P, alloc: Global, board: &Board<I>, runs: &mut Vec<LinkRun>, live: &mut Vec<usize>) -> Result<Taken, NoMemory>
+pub fn take_link<P: Port, I: Isolate>(
+    port: &mut P,
+    alloc: Global,
+    board: &Board<I>,
+    runs: &mut Vec<LinkRun>,
+    live: &mut Vec<usize>,
+) -> Result<Taken, NoMemory>
     requires tended { Tended board.now.0.sockets (P.told port.old) (P.usable port.old) (P.gone port.old) board.now.1 runs.old.items }
     requires sockets { length (P.told port.old).sockets ≡ length board.now.0.sockets }
     requires small { length runs.old.items < 2 ^ 32 }
@@ -243,5 +287,3 @@ pub fn take_link<P: Port, I: Isolate>(port: &mut P, alloc: Global, board: &Board
         },
     }
 }
-
-ghost use Rattle.wd_top.specs.declared.seat.table.Taken.{Taken as TakenIs};

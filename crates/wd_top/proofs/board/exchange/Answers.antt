@@ -41,4 +41,3 @@ returns-in-Ok-clause-run g c = (exchanged g.I.Isolate.means c.args.world.now c.a
 
 pub returns-in-Ok-clause-stands : goal.returns-in-Ok-clause-stands
 returns-in-Ok-clause-stands g c = (exchanged g.I.Isolate.means c.args.world.now c.args.machine.now c.begin.new.machine c.finish.new.machine c.args.entries.now c.begin.new.entries c.finish.new.entries c.args.count (record { 0 = c.args.count + 1 }) c.args.service.now c.args.link c.args.request c.in-Some.place c.finish.result c.requires.run.numbered (run_arrived g.I.Isolate.means c.args.world.now c.args.machine.now c.args.entries.now c.args.count (record { 0 = c.args.count + 1 }) c.args.service.now c.args.link c.args.request c.requires.run c.requires.stands refl c.requires.known c.requires.public) c.requires.stands refl (ap (λ t. position_from (is_worker t) 0 c.args.machine.now.workers) (sym c.as_slice.ensures) ∙ sym c.worker_place-worker.ensures ∙ c.in-Some.is) (c.in-Ok.ensures.state ∙ ap (λ t. begun g.I.Isolate.means t the_seat (record { 0 = c.args.count + 1 })) c.in_ok-arrive.ensures.state) (c.in-Ok.ensures.entries ∙ ap (λ k. k ++ Begin the_seat (record { 0 = c.args.count + 1 }) ∷ []) c.in_ok-arrive.ensures.entries) c.finish.ensures.state c.finish.ensures.entries c.finish.ensures.err).stands
-
