@@ -1,5 +1,5 @@
 -- The journal with a request's entries behind it.
-use Rattle.std.proofs.Common.{OnOk, OnErr, IfOk, ◌≡◌, ◌≢◌, ℕ, zero, suc, ◌+◌, ◌-◌, ◌<◌, ◌≤◌, List, [], ◌∷◌, ◌++◌, length, map, flat_map, get_or, refl, ap, ap₂, sym, ◌∙◌, subst, arith, Bool, true, false, not, ◌&&◌, if◌then◌else◌, Option, Some, None, inl, inr, ◌⊎◌, Result, Ok, Err, nat_eq, cond}
+use Rattle.std.proofs.Common.{OnOk, OnErr, IfOk, ◌≡◌, ℕ, zero, suc, ◌+◌, ◌<◌, List, [], ◌∷◌, ◌++◌, length, map, flat_map, get_or, refl, ap, sym, ◌∙◌, subst, arith, Bool, true, false, not, ◌&&◌, if◌then◌else◌, Option, Some, None, inl, inr, Result, Ok, Err, cond}
 use Rattle.std.proofs.lemmas.Bool.{false≢true}
 use Rattle.std.specs.Prelude.{is_some, is_none}
 use Rattle.std.specs.List.{find, list_any, position_from}
@@ -14,7 +14,7 @@ use Rattle.wd_base.specs.declared.ids.SockNo.{SockNo}
 use Rattle.wd_base.specs.declared.http.Reply.{Reply}
 use Rattle.wd_base.specs.declared.http.ReqData.{ReqData}
 use Rattle.wd_base.specs.declared.objects.Origin.TheVariants.{Outside}
-use Rattle.wd_graph.specs.Links.{references, is_unknown, first_unknown, named_at, named_by}
+use Rattle.wd_graph.specs.Links.{is_unknown, first_unknown, named_at, named_by}
 use Rattle.wd_graph.specs.Names.{worker_in, service_of, has_name, is_named, same_name, is_public}
 use Rattle.wd_machine.specs.declared.journal.Entry.{Entry}
 use Rattle.wd_machine.specs.declared.journal.Entry.TheVariants.{Arrive, Begin, Turn}
@@ -26,12 +26,12 @@ use Rattle.wd_machine.specs.Found.{is_worker, worker_of, request_of, worker_for,
 use Rattle.wd_machine.specs.Meaning.{Meaning}
 use Rattle.wd_machine.specs.Rules.{broken_in, is_open}
 use Rattle.wd_machine.specs.First.{first_state, first_isolate, started_worker, first_worker, workers_among, add}
-use Rattle.wd_machine.specs.Runs.{legal, legal_from, after, after_from}
+use Rattle.wd_machine.specs.Runs.{legal_from, after, after_from}
 use Rattle.wd_machine.specs.Steps.{step, begun, turned, turn_out}
 use Rattle.wd_top.specs.Board.{the_seat, AreIdle, IsRun, Rests, Stands, Ends}
-use Rattle.wd_top.specs.Talk.{Talk, talk, asked_row, answered_row, add_row, with_reply, with_reply_if, came_over, talk_step, IsNumbered, arrival_count, seat_of, IsOfSeat}
+use Rattle.wd_top.specs.Talk.{talk, asked_row, add_row, with_reply, with_reply_if, IsNumbered, arrival_count, seat_of, IsOfSeat}
 use Rattle.wd_top.specs.Session.{service_at, no_socket}
-use Rattle.wd_top.specs.Steps.{Adds, Others, Answers}
+use Rattle.wd_top.specs.Steps.{Others, Answers}
 use Rattle.wd_top.proofs.TalkSteps.{HasNext, talk_push, count_push, numbered_push, seat_push, below, reply_none, reply_last, nat_self, nat_other}
 use Rattle.wd_top.proofs.MachineSteps.{after_arrival, rests_arrived, while_turn, out_of, arrive_allowed, begin_allowed, turn_allowed, rests_turned, begins, turn_out_is, found_place, turn_places}
 

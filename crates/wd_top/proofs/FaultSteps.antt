@@ -1,5 +1,5 @@
 -- No part of the count of faults falls.
-use Rattle.std.proofs.Common.{◌≡◌, ◌≢◌, ℕ, ◌+◌, ◌-◌, ◌<◌, ◌≤◌, refl, ap, sym, ◌∙◌, subst, arith, Result}
+use Rattle.std.proofs.Common.{ℕ, ◌≤◌, sym, subst, arith, Result}
 use Rattle.wd_ports.specs.declared.told.Faults.{Faults}
 use Rattle.wd_ports.specs.declared.told.Failed.{Failed}
 use Rattle.wd_ports.specs.declared.told.Side.{Side}

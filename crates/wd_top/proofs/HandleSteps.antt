@@ -1,12 +1,12 @@
 -- What `hear` and `handle` leave, exit by exit.
-use Rattle.std.proofs.Common.{◌≡◌, ◌≢◌, ℕ, ◌+◌, ◌-◌, ◌<◌, ◌≤◌, List, [], ◌∷◌, ◌++◌, length, take, refl, ap, ap₂, sym, ◌∙◌, subst, arith, Bool, true, false, Option, Some, None, Result, Ok, Err, inl, inr, ◌⊎◌, append-nil, IsErrOf, OnOk}
+use Rattle.std.proofs.Common.{◌≡◌, ℕ, ◌≤◌, List, [], length, take, refl, sym, ◌∙◌, subst, Bool, true, false, Some, Result, Ok, Err, inl, inr, append-nil, IsErrOf, OnOk}
 use Rattle.std.proofs.lemmas.Bool.{false≢true}
 use Rattle.wd_base.specs.declared.ids.LinkNo.{LinkNo}
 use Rattle.wd_base.specs.declared.http.ReqData.{ReqData}
 use Rattle.wd_ports.specs.declared.told.LinkState.{LinkState}
 use Rattle.wd_ports.specs.declared.told.Failed.{Failed}
 use Rattle.wd_ports.specs.declared.told.Failed.TheVariants.{Fault, NoMemory}
-use Rattle.wd_ports.specs.Told.{Told, on_link, with_received, with_sent, with_end, received_on, ended_on}
+use Rattle.wd_ports.specs.Told.{Told, with_received, with_sent, with_end, received_on, ended_on}
 use Rattle.wd_ports.specs.Send.{Sends}
 use Rattle.wd_machine.specs.declared.journal.Entry.{Entry}
 use Rattle.wd_top.specs.declared.http_in.conn.Phase.TheVariants as phase
@@ -16,11 +16,11 @@ use Rattle.wd_top.specs.declared.seat.link.Heard.{Heard}
 use Rattle.wd_top.specs.declared.seat.link.Heard.TheVariants as heard
 use Rattle.wd_top.specs.declared.seat.link.StepEnd.{StepEnd}
 use Rattle.wd_top.specs.declared.seat.link.StepEnd.TheVariants as end
-use Rattle.wd_top.specs.Stream.{IsFault, IsUnfinished}
+use Rattle.wd_top.specs.Stream.{IsFault}
 use Rattle.wd_top.specs.Text.{reply_text}
 use Rattle.wd_top.specs.Talk.{Talk, talk}
-use Rattle.wd_top.specs.Session.{is_head, tail_text, Carries, IsWhole}
-use Rattle.wd_top.specs.Steps.{Answers, Reading, Opened, Asks, Known, Knows, SameButConn, Hears, Replies, IsLeft, After, Handles, end_of}
+use Rattle.wd_top.specs.Session.{is_head, tail_text, Carries}
+use Rattle.wd_top.specs.Steps.{Reading, Opened, Asks, Known, Knows, SameButConn, Hears, Replies, IsLeft, After, Handles, end_of}
 use Rattle.wd_top.proofs.SessionSteps.{same_link, received_link, ended_link, sent_link, reading_more, reading_end, reading_asked, reading_sent, carries_part, carries_all, carries_asked, whole_closed, whole_ended, whole_refused, carries_refused}
 
 pub hears_same : (n : LinkNo) (run : LinkRun) (i : Heard) (t new : Told) → new ≡ t → ((s : List ℕ) (l : LinkState) (k : Talk) → Opened s l k run → Known i s l k run) → Hears n run run i t new

@@ -1,9 +1,8 @@
 -- The machine's state from a request's arrival to its turn.
-use Rattle.std.proofs.Common.{◌≡◌, ◌≢◌, ℕ, zero, suc, ◌+◌, ◌-◌, ◌<◌, ◌≤◌, ◌==◌, List, [], ◌∷◌, ◌++◌, length, map, refl, ap, ap₂, sym, ◌∙◌, subst, arith, Bool, true, false, not, ◌&&◌, if◌then◌else◌, Option, Some, None, nat_eq, length-append, append_assoc}
+use Rattle.std.proofs.Common.{◌≡◌, ◌≢◌, ℕ, ◌+◌, ◌<◌, ◌==◌, List, [], ◌∷◌, ◌++◌, length, refl, ap, sym, ◌∙◌, subst, arith, Bool, true, false, not, if◌then◌else◌, Option, Some, None, length-append}
 use Rattle.std.proofs.lemmas.Bool.Decides.{nat_tests}
-use Rattle.std.proofs.lemmas.Bool.{false≢true}
-use Rattle.std.specs.Prelude.{is_some, is_none, filter, nat_lt}
-use Rattle.std.specs.List.{find, position_from, list_any}
+use Rattle.std.specs.Prelude.{is_some, filter}
+use Rattle.std.specs.List.{find, position_from}
 use Rattle.std.specs.Coded.{Coded}
 use Rattle.wd_base.specs.declared.config.Config.{Config}
 use Rattle.wd_base.specs.declared.ids.LinkNo.{LinkNo}
@@ -12,11 +11,8 @@ use Rattle.wd_base.specs.declared.http.ReqData.{ReqData}
 use Rattle.wd_base.specs.declared.objects.Origin.TheVariants.{Outside}
 use Rattle.wd_base.specs.declared.objects.Wake.TheVariants.{Start}
 use Rattle.wd_graph.specs.Names.{service_of, is_public}
-use Rattle.wd_machine.specs.declared.find.Places.{Places}
-use Rattle.wd_machine.specs.declared.journal.Entry.{Entry}
 use Rattle.wd_machine.specs.declared.journal.Entry.TheVariants.{Arrive, Begin, Turn}
 use Rattle.wd_machine.specs.declared.journal.Head.TheVariants.{Whole}
-use Rattle.wd_machine.specs.declared.refusal.Refused.{Refused}
 use Rattle.wd_machine.specs.declared.state.Due.{Due}
 use Rattle.wd_machine.specs.declared.state.Pending.{Pending}
 use Rattle.wd_machine.specs.declared.state.RequestState.{RequestState}
@@ -31,7 +27,7 @@ use Rattle.wd_machine.specs.Keyed.{change}
 use Rattle.wd_machine.specs.Meaning.{Meaning, TurnGives}
 use Rattle.wd_machine.specs.Rules.{broken_in, broken_begin, broken_turn, is_open}
 use Rattle.wd_machine.specs.Same.{first_difference, is_same}
-use Rattle.wd_machine.specs.Steps.{arrived, new_request, waits_too, turn_generation, turn_in, taken_by, runs_turn, begun, begun_by, begun_in, begun_front, begun_with, has_turned, given_back, turned, turned_by, turned_in, turned_with, turn_out, entry_out}
+use Rattle.wd_machine.specs.Steps.{arrived, new_request, waits_too, turn_generation, turn_in, taken_by, runs_turn, begun, begun_by, begun_in, begun_front, begun_with, has_turned, given_back, turned, turned_by, turned_with, turn_out}
 use Rattle.wd_machine.proofs.KeyedLemmas.{change_none}
 use Rattle.wd_machine.proofs.SameLemmas.{is_same_exact}
 use Rattle.wd_top.specs.Board.{the_seat, RowsFrom, AreIdle, Rests}

@@ -1,5 +1,5 @@
 -- One link moves, or is new, among those of the table.
-use Rattle.std.proofs.Common.{◌≡◌, ◌≢◌, ℕ, zero, suc, ◌+◌, ◌-◌, ◌<◌, ◌≤◌, List, [], ◌∷◌, ◌++◌, length, map, take, set, get_or, refl, ap, ap₂, sym, ◌∙◌, subst, arith, Bool, true, false, Option, Some, None, inl, inr, ◌⊎◌, IfSome, length-append}
+use Rattle.std.proofs.Common.{◌≡◌, ◌≢◌, ℕ, zero, suc, ◌+◌, ◌-◌, ◌<◌, ◌≤◌, List, [], ◌∷◌, ◌++◌, length, set, get_or, refl, ap, sym, ◌∙◌, subst, arith, true, false, Option, Some, None, inl, inr, ◌⊎◌, IfSome, length-append}
 use Rattle.std.specs.Option.{option_map}
 use Rattle.std.proofs.lemmas.List.{get_or-set_same, get_or-set_other, length-set}
 use Rattle.std.proofs.lemmas.Bool.{cases_eq}
@@ -20,9 +20,9 @@ use Rattle.wd_top.specs.declared.seat.link.StepEnd.{StepEnd}
 use Rattle.wd_top.specs.declared.seat.link.StepEnd.TheVariants as end
 use Rattle.wd_top.specs.declared.seat.link.Stage.{Stage}
 use Rattle.wd_top.specs.declared.seat.link.Stage.TheVariants.{Open, Shut, Stopped}
-use Rattle.wd_top.specs.Talk.{Talk, talk, no_talk, TakesTurns}
-use Rattle.wd_top.specs.Session.{service_at, link_at, number, IsOutside, Carries, IsWhole, CarriesFrom, WholeFrom, Session, Done}
-use Rattle.wd_top.specs.Steps.{IsLeft, Others, Reading, Opened, Hears, Handles, After, Known, TendedAs, Moves}
+use Rattle.wd_top.specs.Talk.{Talk, talk, no_talk}
+use Rattle.wd_top.specs.Session.{service_at, number, IsOutside, Carries, CarriesFrom, WholeFrom, Session, Done}
+use Rattle.wd_top.specs.Steps.{IsLeft, Others, Opened, Hears, Handles, After, TendedAs, Moves}
 use Rattle.wd_top.specs.Table.{IsTended, AreTended, Tended, run_at, new_run, blank_run, AreShut, Kept}
 use Rattle.wd_top.proofs.StreamSteps.{unfinished_nothing}
 use Rattle.wd_top.proofs.SessionSteps.{shut_link, carries_all, carries_shut, whole_shut}

@@ -1,15 +1,10 @@
 -- The journal grows by one entry.
-use Rattle.std.proofs.Common.{◌≡◌, ◌≢◌, ℕ, ◌+◌, ◌-◌, ◌<◌, ◌≤◌, List, [], ◌∷◌, ◌++◌, refl, ap, ap₂, sym, ◌∙◌, subst, arith, Bool, true, false, ◌&&◌, Option, Some, None, nat_eq, cond, eq-eqb}
+use Rattle.std.proofs.Common.{◌≡◌, ◌≢◌, ℕ, ◌+◌, ◌<◌, ◌≤◌, List, [], ◌∷◌, ◌++◌, refl, ap, sym, ◌∙◌, subst, arith, Bool, true, false, ◌&&◌, Option, Some, None, nat_eq, cond, eq-eqb}
 use Rattle.std.proofs.lemmas.Bool.Decides.{nat_tests}
 use Rattle.std.proofs.lemmas.Bool.{false≢true}
-use Rattle.wd_base.specs.declared.ids.Seat.{Seat}
-use Rattle.wd_base.specs.declared.ids.LinkNo.{LinkNo}
 use Rattle.wd_base.specs.declared.ids.Req.{Req}
 use Rattle.wd_base.specs.declared.http.ReqData.{ReqData}
 use Rattle.wd_base.specs.declared.http.Reply.{Reply}
-use Rattle.wd_base.specs.declared.objects.Origin.{Origin}
-use Rattle.wd_base.specs.declared.objects.Origin.TheVariants.{Outside, Child, Caller}
-use Rattle.wd_machine.specs.declared.turn.Out.{Out}
 use Rattle.wd_machine.specs.declared.journal.Entry.{Entry}
 use Rattle.wd_machine.specs.declared.journal.Entry.TheVariants.{Arrive, Begin, Turn, Answer, Served, Cancel, Drain}
 use Rattle.wd_top.specs.Talk.{Row, Talk, answered, asked_row, answered_row, add_row, with_reply, with_reply_if, came_over, talk_step, talk_from, no_talk, talk, TakesTurns, NumberedFrom, IsNumbered, arrivals_after, arrival_count, seat_of, EachOfSeat, IsOfSeat}

@@ -1,5 +1,5 @@
 -- The table of a seat: one entry for each link that was ever given, and the list of those that may be open.
-use Rattle.std.specs.Prelude.{◌≡◌, ◌≢◌, ◌⊎◌, ℕ, ◌<◌, ◌+◌, Bool, true, false, List, [], ◌∷◌, length, cond, IfSome, slice_index_or, map}
+use Rattle.std.specs.Prelude.{◌≡◌, ◌⊎◌, ℕ, ◌<◌, ◌+◌, Bool, true, false, List, [], ◌∷◌, length, cond, IfSome, slice_index_or, map}
 use Rattle.wd_base.specs.declared.ids.LinkNo.{LinkNo}
 use Rattle.wd_base.specs.declared.ids.SockNo.{SockNo}
 use Rattle.wd_base.specs.declared.config.Addr.{Addr}

@@ -60,6 +60,9 @@ fn wait_where<P: Port>(port: &mut P, quiet: bool)
 ///
 /// The links are tended in turn, one request of each in a round. It waits (`Port::idle`) only after
 /// a round in which no link came and nothing was heard of any.
+///
+/// A link whose request has no reply (its service is no Worker, or its turn left it live) is kept
+/// as it is, and the session does not end, since nothing can bring the reply yet.
 #[tactic(auto, using(crate::proofs::FaultSteps::none_fell_same, crate::proofs::FaultSteps::none_fell_then))]
 pub fn run<R: Wait, P: Port, I: Isolate>(
     rt: &R,

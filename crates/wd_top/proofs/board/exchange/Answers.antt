@@ -1,14 +1,10 @@
-use Rattle.std.proofs.Common.{[], ◌∷◌, ◌++◌, ◌≡◌, ℕ, ◌+◌, sym, ◌∙◌, refl, ap, subst, Some, None, Ok, Err, Option, Result, IfOk, OnOk, List, arith}
-use Rattle.wd_base.specs.declared.http.Reply.{Reply}
-use Rattle.wd_machine.specs.declared.journal.Entry.{Entry}
+use Rattle.std.proofs.Common.{[], ◌∷◌, ◌++◌, ◌+◌, sym, ◌∙◌, refl, ap}
 use Rattle.wd_machine.specs.declared.journal.Entry.TheVariants.{Begin}
-use Rattle.wd_machine.specs.declared.state.State.{State}
 use Rattle.std.specs.List.{position_from}
-use Rattle.wd_machine.specs.Found.{ArePlaces, is_worker}
-use Rattle.wd_machine.specs.Steps.{begun, turned}
-use Rattle.wd_top.specs.Board.{the_seat, IsRun, Stands}
-use Rattle.wd_top.specs.Steps.{Answers}
-use Rattle.wd_top.proofs.BoardSteps.{asked_only, asks, asks_begun, run_arrived, stands_arrived, begun_run, places_begun, Exchanged, exchanged}
+use Rattle.wd_machine.specs.Found.{is_worker}
+use Rattle.wd_machine.specs.Steps.{begun}
+use Rattle.wd_top.specs.Board.{the_seat}
+use Rattle.wd_top.proofs.BoardSteps.{asked_only, asks, run_arrived, stands_arrived, places_begun, exchanged}
 use Rattle.wd_top.proofs.MachineSteps.{arrival_places}
 use Rattle.wd_top.proofs.board.exchange.Goals as goal
 

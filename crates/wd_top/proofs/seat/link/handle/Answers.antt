@@ -1,4 +1,4 @@
-use Rattle.std.proofs.Common.{◌∙◌, ap, ap₂, sym, subst}
+use Rattle.std.proofs.Common.{◌∙◌, ap}
 use Rattle.wd_top.specs.declared.seat.link.Heard.TheVariants as heard
 use Rattle.wd_top.proofs.HandleSteps.{handles_later, handles_nothing, handles_end, handles_lost, handles_full, handles_request, handles_bad}
 use Rattle.wd_top.proofs.seat.link.handle.Goals as goal

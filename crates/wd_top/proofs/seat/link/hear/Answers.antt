@@ -1,5 +1,4 @@
-use Rattle.std.proofs.Common.{take, [], sym, ◌∙◌}
-use Rattle.wd_top.specs.declared.http_in.conn.Fed.TheVariants as fed
+use Rattle.std.proofs.Common.{take}
 use Rattle.wd_top.specs.declared.seat.link.Heard.TheVariants as heard
 use Rattle.wd_top.proofs.HandleSteps.{hears_same, hears_fed, hears_bytes, hears_end}
 use Rattle.wd_top.proofs.seat.link.hear.Goals as goal

@@ -1,4 +1,4 @@
-use Rattle.std.proofs.Common.{sym, ◌∙◌, arith, ap}
+use Rattle.std.proofs.Common.{arith}
 use Rattle.wd_top.proofs.LiveSteps.{at_within, compacts}
 use Rattle.wd_top.proofs.seat.table.keep_front.Goals as goal
 

@@ -1,4 +1,3 @@
-use Rattle.std.proofs.Common.{◌≡◌, ◌≤◌, ◌++◌, length, take, drop}
 use Rattle.wd_top.proofs.LiveSteps.{Compacts}
 use Rattle.wd_top.proofs.seat.table.keep_front.Given as goal
 

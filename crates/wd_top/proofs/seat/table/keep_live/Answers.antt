@@ -1,4 +1,4 @@
-use Rattle.std.proofs.Common.{sym, ◌∙◌, arith, ap}
+use Rattle.std.proofs.Common.{◌∙◌, arith, ap}
 use Rattle.wd_top.specs.Table.{keep}
 use Rattle.wd_top.proofs.LiveSteps.{truncated}
 use Rattle.wd_top.proofs.seat.table.keep_live.Goals as goal

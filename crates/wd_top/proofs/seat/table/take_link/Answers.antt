@@ -1,4 +1,4 @@
-use Rattle.std.proofs.Common.{sym, ◌∙◌, refl, ap, [], ◌∷◌, ◌++◌, subst, ◌<◌}
+use Rattle.std.proofs.Common.{ap, [], ◌∷◌, ◌++◌, subst, ◌<◌}
 use Rattle.wd_top.specs.Table.{new_run}
 use Rattle.wd_top.proofs.TableSteps.{tended_same, tended_session, tended_new}
 use Rattle.wd_top.proofs.seat.table.take_link.Goals as goal

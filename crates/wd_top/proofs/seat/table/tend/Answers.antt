@@ -1,4 +1,4 @@
-use Rattle.std.proofs.Common.{sym, ◌∙◌, refl, true, false, ap, subst, ◌<◌, length}
+use Rattle.std.proofs.Common.{sym, ◌∙◌, refl, ap, subst, ◌<◌, length}
 use Rattle.wd_top.proofs.TableSteps.{tended_move, found_run, kept_move}
 use Rattle.wd_top.proofs.seat.table.tend.Goals as goal
 

@@ -1,5 +1,5 @@
-use Rattle.std.proofs.Common.{sym, ◌∙◌, ap, subst}
-use Rattle.wd_top.specs.Table.{keep, Covers, AreWithin}
+use Rattle.std.proofs.Common.{◌∙◌, ap, subst}
+use Rattle.wd_top.specs.Table.{keep, Covers}
 use Rattle.wd_top.proofs.LiveSteps.{covers_keep, within_keep}
 use Rattle.wd_top.proofs.seat.table.tend_all.Goals as goal
 

@@ -1,4 +1,4 @@
-use Rattle.std.proofs.Common.{sym, ◌∙◌}
+use Rattle.std.proofs.Common.{◌∙◌}
 use Rattle.wd_top.proofs.FaultSteps.{none_fell_then}
 use Rattle.wd_top.proofs.LiveSteps.{below_index, covers_step}
 use Rattle.wd_top.proofs.seat.table.tend_listed.Goals as goal

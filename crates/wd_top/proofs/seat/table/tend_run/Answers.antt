@@ -1,4 +1,4 @@
-use Rattle.std.proofs.Common.{subst, inl, inr}
+use Rattle.std.proofs.Common.{inl, inr}
 use Rattle.wd_top.proofs.TableSteps.{moves_on, moves_over, moves_left}
 use Rattle.wd_top.proofs.seat.table.tend_run.Goals as goal
 
