@@ -9,9 +9,7 @@ use crate::mem_files::{MemFiles, fails_now};
 use crate::plan::{Hosts, Peers, PortPlan};
 use crate::port::{Files, Port};
 use crate::schedule::Schedule;
-use crate::told::{
-    Accepted, Failed, Faults, FileFaults, Got, LinkOrigin, LinkState, Names,
-};
+use crate::told::{Accepted, Failed, Faults, FileFaults, Got, LinkOrigin, LinkState, Names};
 use std::alloc::Global;
 use wd_base::{Addr, Bytes, Ip4, Ips, LinkNo, NoMemory, Numbers, Seq, SockNo, TryClone};
 

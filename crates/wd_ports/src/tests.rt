@@ -404,7 +404,11 @@ fn files_are_found_by_their_paths(rt: HostRuntime) -> Result<(), Fail> {
     let alloc = rt.alloc();
     let mut files = some_files(alloc)?;
     for (path, want) in [("d/a", b"1".as_slice()), ("d", b"(none)"), ("dd", b"4")] {
-        assert_eq!(rt; file_text(alloc, &mut files, path)?.as_slice(), want, "at {path}");
+        assert_eq!(rt;
+            file_text(alloc, &mut files, path)?.as_slice(),
+            want,
+            "at {path}"
+        );
     }
     for (path, want) in [
         ("d", b"a;a;e/;".as_slice()),
@@ -412,12 +416,25 @@ fn files_are_found_by_their_paths(rt: HostRuntime) -> Result<(), Fail> {
         ("x", b"(none)"),
         ("dd", b"(none)"),
     ] {
-        assert_eq!(rt; list_text(alloc, &mut files, path)?.as_slice(), want, "at {path}");
+        assert_eq!(rt;
+            list_text(alloc, &mut files, path)?.as_slice(),
+            want,
+            "at {path}"
+        );
     }
     assert_eq!(rt; files.write(alloc, "d/a", b"new"), Ok(()));
-    assert_eq!(rt; file_text(alloc, &mut files, "d/a")?.as_slice(), b"new".as_slice());
-    assert_eq!(rt; file_text(alloc, &mut files, "d/a")?.as_slice(), b"(fault)".as_slice());
-    assert_eq!(rt; list_text(alloc, &mut files, "d")?.as_slice(), b"(fault)".as_slice());
+    assert_eq!(rt;
+        file_text(alloc, &mut files, "d/a")?.as_slice(),
+        b"new".as_slice()
+    );
+    assert_eq!(rt;
+        file_text(alloc, &mut files, "d/a")?.as_slice(),
+        b"(fault)".as_slice()
+    );
+    assert_eq!(rt;
+        list_text(alloc, &mut files, "d")?.as_slice(),
+        b"(fault)".as_slice()
+    );
     assert_eq!(rt; files.write(alloc, "d/a", b"newer"), Err(Failed::Fault));
     let once = FileFaults {
         read: 1,
@@ -425,7 +442,10 @@ fn files_are_found_by_their_paths(rt: HostRuntime) -> Result<(), Fail> {
         write: 1,
     };
     assert_eq!(rt; files.faults, once);
-    assert_eq!(rt; file_text(alloc, &mut files, "d/a")?.as_slice(), b"new".as_slice());
+    assert_eq!(rt;
+        file_text(alloc, &mut files, "d/a")?.as_slice(),
+        b"new".as_slice()
+    );
     Ok(())
 }
 

@@ -11,7 +11,6 @@ pub enum Failed {
 
 impl From<NoMemory> for Failed {
     ghost use Rattle.std.specs.Prelude.{◌≡◌};
-
     ghost use Rattle.wd_ports.specs.declared.told.Failed.TheVariants.{NoMemory};
 
     ghost from_gives = { λ _ e. e ≡ NoMemory };

@@ -68,8 +68,8 @@ fn begin(seat: u32, req: u64) -> Entry {
 }
 
 /// The rule that was broken with the number that was kept; 0 stands for an entry that was taken.
-fn refusal(answer: Result<(), ApplyEnd>) -> (u8, u64) {
-    match answer {
+fn refusal(result: Result<(), ApplyEnd>) -> (u8, u64) {
+    match result {
         Ok(()) => (0, 0),
         Err(ApplyEnd::NoMemory) => (255, 0),
         Err(ApplyEnd::Refused(refused)) => (refused.rule, number(&refused.kept)),

@@ -13,8 +13,7 @@ use Rattle.std.proofs.lemmas.Str.{IsUtf8-from_ascii}
 use Rattle.wd_base.specs.declared.ids.NoMemory.{NoMemory}
 use Rattle.wd_top.specs.declared.config.ConfigText.{ConfigText}
 use Rattle.wd_top.specs.Config.{config_form, config_end, texts_of, IsConfig, ConfigOf, TextsOf}
-use Rattle.wd_top.specs.Form.{ReadsForm}
-use Rattle.wd_top.specs.Holes.{ReadsHoles}
+use Rattle.wd_top.specs.Form.{ReadsForm, IsFilled}
 use Rattle.wd_top.proofs.FormSteps.{same_self}
 use Rattle.wd_top.proofs.FormUnique.{form_unique}
 
@@ -48,12 +47,12 @@ texts_say bytes holes (Some t) reads (e, some, small, date) =
     record { reads = subst (λ hs. ReadsForm config_form config_end hs bytes []) e reads; some = some; small = small; date = date }
 texts_say bytes holes None reads none = λ t is. none t is.some is.small is.date (form_unique config_form config_end bytes holes (texts_of t) refl reads is.reads)
 
-pub texts_say_ok : (bytes : List ℕ) (holes : List (List ℕ)) (r : Result (Option ConfigText) NoMemory) → ReadsHoles config_form config_end bytes [] (Some holes) → IfOk r (λ found. TextsOf holes found) → IfOk r (λ found. ConfigOf bytes found)
-texts_say_ok bytes holes (Ok found) (hs, reads, is) says = texts_say bytes holes found (subst (λ t. ReadsForm config_form config_end t bytes []) (sym is) reads) says
-texts_say_ok bytes holes (Err x) holds says = tt
+pub texts_say_ok : (bytes : List ℕ) (holes : List (List ℕ)) (r : Result (Option ConfigText) NoMemory) → ReadsForm config_form config_end holes bytes [] → IfOk r (λ found. TextsOf holes found) → IfOk r (λ found. ConfigOf bytes found)
+texts_say_ok bytes holes (Ok found) reads says = texts_say bytes holes found reads says
+texts_say_ok bytes holes (Err x) reads says = tt
 
 -- no holes, no configuration
-pub no_holes_say : (bytes : List ℕ) → ReadsHoles config_form config_end bytes [] None → (t : ConfigText) → IsConfig bytes t → ⊥
+pub no_holes_say : (bytes : List ℕ) → IsFilled config_form config_end bytes None → (t : ConfigText) → IsConfig bytes t → ⊥
 no_holes_say bytes none t is = none (texts_of t) is.reads
 
 -- no port is 0

@@ -1,17 +1,18 @@
 -- Reading a form, part by part.
-use Rattle.std.proofs.Common.{◌≡◌, ◌≢◌, ℕ, zero, suc, ◌+◌, ◌-◌, ◌<◌, ◌≤◌, List, [], ◌∷◌, ◌++◌, length, take, drop, get_or, refl, ap, ap₂, sym, ◌∙◌, subst, arith, Bool, true, false, ◌&&◌, ◌||◌, not, ◌⊎◌, inl, inr, append_assoc, append-nil, length-append, length-drop, eq-eqb, nat_eq}
-use Rattle.std.specs.Prelude.{nat_lt, max}
-use Rattle.std.specs.Char.{is_ascii_digit, is_ascii_lowercase}
-use Rattle.std.specs.Cmp.Lexicographic.{pointwise}
+use Rattle.std.proofs.Common.{◌≡◌, ◌≢◌, ℕ, zero, suc, ◌+◌, ◌-◌, ◌<◌, ◌≤◌, List, [], ◌∷◌, ◌++◌, length, take, drop, get_or, refl, ap, ap₂, sym, ◌∙◌, subst, arith, Bool, true, false, ◌&&◌, not, inl, inr, append_assoc, append-nil, length-append, length-drop, eq-eqb, nat_eq}
+use Rattle.std.specs.Prelude.{max, Result, Ok, Err, IfOk, map}
+use Rattle.std.specs.Cmp.Lexicographic.{pointwise, same_text}
 use Rattle.std.proofs.lemmas.List.{take-append-le, take-append-drop, append_cancel_left, take_all, length-take-le}
 use Rattle.std.proofs.Math.Seq.{take-append_seam, drop-append-add}
 use Rattle.std.proofs.lemmas.Bool.{false≢true}
+use Rattle.wd_base.specs.declared.ids.NoMemory.{NoMemory}
+use Rattle.wd_top.specs.declared.form.Part.{Part}
 use Rattle.wd_top.specs.declared.form.Hole.{Hole}
 use Rattle.wd_top.specs.declared.form.Hole.TheVariants.{Word, Host, Port, Plain, Quoted}
 use Rattle.wd_top.specs.declared.form.Next.TheVariants as next
 use Rattle.wd_top.specs.declared.form.Found.{Found}
 use Rattle.wd_top.specs.declared.form.Found.TheVariants as found
-use Rattle.wd_top.specs.Form.{in_hole, allows, fills, least, IsIn, Gap, ReadsForm, begins_outside, first_text, is_separated, least_size, IsRun, Stops, IsGreedy, IsGapAt, EndsWithin, IsNext, Completes, Finds}
+use Rattle.wd_top.specs.Form.{gap_of, in_hole, allows, fills, least, IsIn, Gap, ReadsForm, begins_outside, is_separated, least_size, IsRun, Stops, IsGreedy, IsGapAt, EndsWithin, IsNext, Finds, FillsBehind}
 
 -- both halves of a conjunction
 pub both_left : (a b : Bool) → (a && b) ≡ true → a ≡ true
@@ -233,7 +234,7 @@ peel g gs end bytes k more (h ∷ hs) rest sep a (b, inn, e, r) =
     let s : (a.held ≡ h) × (a.after ++ more ≡ b) = split_run g.hole 0 a.held h (a.after ++ more) b (greedy_more g.hole 0 a.held a.after more a.greedy) inn.0 (follows g gs end sep hs b rest r) e2 in
     record { others = hs; first = ap (λ t. t ∷ hs) (sym s.0); reads = subst (λ t. ReadsForm gs end hs t rest) (sym s.1 ∙ ap (λ t. t ++ more) (sym (gap_drop g bytes k a))) r }
 
-pub put_back : (g : Gap) (gs : List Gap) (end bytes : List ℕ) (k : ℕ) (more : List ℕ) (holes : List (List ℕ)) (rest : List ℕ) → (a : IsGapAt g bytes k) → ReadsForm gs end holes (drop k bytes ++ more) rest → ReadsForm (g ∷ gs) end (a.held ∷ holes) (bytes ++ more) rest
+put_back : (g : Gap) (gs : List Gap) (end bytes : List ℕ) (k : ℕ) (more : List ℕ) (holes : List (List ℕ)) (rest : List ℕ) → (a : IsGapAt g bytes k) → ReadsForm gs end holes (drop k bytes ++ more) rest → ReadsForm (g ∷ gs) end (a.held ∷ holes) (bytes ++ more) rest
 put_back g gs end bytes k more holes rest a r = (
   a.after ++ more,
   (greedy_fills g.hole 0 a.held a.after a.greedy, a.some),
@@ -426,3 +427,77 @@ short_later g gs end bytes sep (inr within) =
         let some : least g.hole ≤ length h' = inn'.1 in
         let size : length (bytes ++ more) ≡ length g.text + (length h' + length after) = ap length e ∙ length-append g.text (h' ++ after) ∙ ap (λ n. length g.text + n) (length-append h' after) in
         omega arith
+
+-- whole texts
+whole_read : (gs : List Gap) (end : List ℕ) (holes : List (List ℕ)) (bytes : List ℕ) → ReadsForm gs end holes bytes [] → ReadsForm gs end holes (bytes ++ []) []
+whole_read gs end holes bytes r = subst (λ t. ReadsForm gs end holes t []) (sym (append-nil bytes)) r
+
+pub fills_short : (g : Gap) (gs : List Gap) (end bytes : List ℕ) (old new : List (List ℕ)) → is_separated (g ∷ gs) end ≡ true → EndsWithin g bytes → FillsBehind (g ∷ gs) end bytes false old new
+fills_short g gs end bytes old new sep w holes r =
+    let f = short_later g gs end bytes sep w in
+    let size : ℕ = max (length bytes) (length g.text + least g.hole) + least_size gs end in
+    let few : length bytes < size = f.0 in
+    let most : size + 0 ≤ length (bytes ++ []) = f.3 [] holes [] (whole_read (g ∷ gs) end holes bytes r) in
+    let same : length (bytes ++ []) ≡ length bytes = ap length (append-nil bytes) in
+    absurd (omega arith)
+
+pub fills_other : (g : Gap) (gs : List Gap) (end bytes : List ℕ) (old new : List (List ℕ)) → is_separated (g ∷ gs) end ≡ true → IsNext g bytes next.Other → FillsBehind (g ∷ gs) end bytes false old new
+fills_other g gs end bytes old new sep other holes r = other_never g gs end bytes sep other [] holes [] (whole_read (g ∷ gs) end holes bytes r)
+
+-- the bytes between a part's text and the end of its hole
+held_of : (g : Gap) (bytes : List ℕ) (k : ℕ) (a : IsGapAt g bytes k) → take (k - length g.text) (drop (length g.text) bytes) ≡ a.held
+held_of g bytes k a =
+    let behind : drop (length g.text) bytes ≡ a.held ++ a.after = ap (drop (length g.text)) a.shown ∙ drop_seam g.text (a.held ++ a.after) in
+    let count : k - length g.text ≡ length a.held = let e = a.ends in omega arith in
+    ap₂ take count behind ∙ take-append_seam a.held a.after
+
+pub fills_at : (g : Gap) (gs : List Gap) (end bytes : List ℕ) (k : ℕ) (whole : Bool) (old mid new : List (List ℕ)) → is_separated (g ∷ gs) end ≡ true → IsGapAt g bytes k → mid ≡ old ++ (take (k - length g.text) (drop (length g.text) bytes)) ∷ [] → FillsBehind gs end (take (length bytes - k) (drop k bytes)) whole mid new → FillsBehind (g ∷ gs) end bytes whole old new
+fills_at g gs end bytes k false old mid new sep a e f = λ holes r.
+    let p = peel g gs end bytes k [] holes [] sep a (whole_read (g ∷ gs) end holes bytes r) in
+    f p.others (subst (λ t. ReadsForm gs end p.others t []) (append-nil (drop k bytes) ∙ sym (rest_of k bytes)) p.reads)
+fills_at g gs end bytes k true old mid new sep a e f =
+    let holes : List (List ℕ) = f.0 in
+    let r : ReadsForm gs end holes (drop k bytes) [] = subst (λ t. ReadsForm gs end holes t []) (rest_of k bytes) f.2 in
+    let back : ReadsForm (g ∷ gs) end (a.held ∷ holes) (bytes ++ []) [] = put_back g gs end bytes k [] holes [] a (whole_read gs end holes (drop k bytes) r) in (
+      a.held ∷ holes,
+      f.1 ∙ ap (λ t. t ++ holes) e ∙ append_assoc old _ holes ∙ ap (λ t. old ++ (t ∷ holes)) (held_of g bytes k a),
+      subst (λ t. ReadsForm (g ∷ gs) end (a.held ∷ holes) t []) (append-nil bytes) back,
+    )
+
+pub fills_end : (end bytes : List ℕ) (whole : Bool) (old : List (List ℕ)) → whole ≡ pointwise nat_eq bytes end → FillsBehind [] end bytes whole old old
+fills_end end bytes true old e = ([], sym (append-nil old), same_text bytes end e ∙ sym (append-nil end))
+fills_end end bytes false old e = none
+  where
+    none : (hs : List (List ℕ)) → ReadsForm [] end hs bytes [] → ⊥
+    none [] r = not_same false bytes end e refl (r ∙ append-nil end)
+    none (h ∷ hs) r = absurd r
+
+-- a step of the code over a list of parts
+pub fills_step : (ps : List Part) (p : Part) (others : List Part) → ps ≡ p ∷ others → (end bytes : List ℕ) (k : ℕ) (r : Result Bool NoMemory) (old mid new : List (List ℕ)) → is_separated (map gap_of ps) end ≡ true → IsGapAt (gap_of p) bytes k
+    → mid ≡ old ++ (take (k - length p.text.now) (drop (length p.text.now) bytes)) ∷ [] → IfOk r (λ whole. FillsBehind (map gap_of others) end (take (length bytes - k) (drop k bytes)) whole mid new) → IfOk r (λ whole. FillsBehind (map gap_of ps) end bytes whole old new)
+fills_step ps p others is end bytes k (Err x) old mid new sep a e f = tt
+fills_step ps p others is end bytes k (Ok whole) old mid new sep a e f =
+    subst (λ l. FillsBehind (map gap_of l) end bytes whole old new) (sym is) (fills_at (gap_of p) (map gap_of others) end bytes k whole old mid new (subst (λ l. is_separated (map gap_of l) end ≡ true) is sep) a e f)
+
+-- as many holes as gaps
+pub holes_size : (gs : List Gap) (end : List ℕ) (hs : List (List ℕ)) (b r : List ℕ) → ReadsForm gs end hs b r → length hs ≡ length gs
+holes_size [] end [] b r e = refl
+holes_size [] end (h ∷ hs) b r e = absurd e
+holes_size (g ∷ gs) end [] b r e = absurd e
+holes_size (g ∷ gs) end (h ∷ hs) b r (after, inn, e, x) = let i = holes_size gs end hs after r x in omega (arith, i)
+
+-- a whole text has one filling alone
+pub form_unique : (gs : List Gap) (end : List ℕ) (hs hs' : List (List ℕ)) (b r r' : List ℕ) → is_separated gs end ≡ true → ReadsForm gs end hs b r → ReadsForm gs end hs' b r' → (hs ≡ hs') × (r ≡ r')
+form_unique [] end [] [] b r r' sep e e' = (refl, append_cancel_left end r r' (sym e ∙ e'))
+form_unique [] end [] (h ∷ hs') b r r' sep e e' = absurd e'
+form_unique [] end (h ∷ hs) hs' b r r' sep e e' = absurd e
+form_unique (g ∷ gs) end [] hs' b r r' sep e e' = absurd e
+form_unique (g ∷ gs) end (h ∷ hs) [] b r r' sep e e' = absurd e'
+form_unique (g ∷ gs) end (h ∷ hs) (h' ∷ hs') b r r' sep (a, inn, e, x) (a', inn', e', x') =
+    let s : (h ≡ h') × (a ≡ a') = same_run g.hole 0 h h' a a' inn.0 inn'.0 (follows g gs end sep hs a r x) (follows g gs end sep hs' a' r' x') (append_cancel_left g.text _ _ (sym e ∙ e')) in
+    let i : (hs ≡ hs') × (r ≡ r') = form_unique gs end hs hs' a r r' (separated_rest g gs end sep) x (subst (λ t. ReadsForm gs end hs' t r') (sym s.1) x') in
+    (ap₂ (λ y z. y ∷ z) s.0 i.0, i.1)
+
+pub no_parts : (ps : List Part) → length ps ≡ 0 → ps ≡ []
+no_parts [] e = refl
+no_parts (p ∷ ps) e = absurd (omega (arith, e))

@@ -1,13 +1,13 @@
 -- Heads as forms.
-use Rattle.std.proofs.Common.{◌≡◌, ℕ, ◌+◌, ◌-◌, ◌<◌, ◌≤◌, List, [], ◌∷◌, ◌++◌, length, take, drop, refl, ap, ap₂, sym, ◌∙◌, subst, arith, true, Option, Some, None, append_assoc, append-nil, length-append, length-drop, ◌⊎◌, inl, inr, zero, suc}
+use Rattle.std.proofs.Common.{◌≡◌, ℕ, ◌+◌, ◌<◌, ◌≤◌, List, [], ◌∷◌, ◌++◌, length, take, drop, refl, ap, sym, ◌∙◌, subst, arith, Option, Some, None, append_assoc, append-nil, length-append, length-drop, ◌⊎◌, inl, inr, zero, suc}
 use Rattle.std.specs.Prelude.{codes, IfSome}
-use Rattle.std.proofs.lemmas.List.{take-append-drop, take_all, length-take-le}
+use Rattle.std.proofs.lemmas.List.{take-append-drop, length-take-le}
 use Rattle.wd_top.specs.declared.form.Hole.TheVariants as hole
 use Rattle.wd_top.specs.declared.form.Found.TheVariants as found
 use Rattle.wd_top.specs.declared.http_in.head.HeadAt.{HeadAt}
 use Rattle.wd_top.specs.declared.http_in.head.HeadAt.TheVariants as at
 use Rattle.wd_top.specs.Form.{IsIn, Gap, ReadsForm, Finds}
-use Rattle.wd_top.specs.Head.{Head, max_head, head_end, host_label, authority, host_value, head_text, IsHead, ReadsHead, HasHead, MayBecomeHead, plain_form, ported_form, HasBounded, MayBecomeBounded, IsBoundedAt, IsBounded, IsHeadAt}
+use Rattle.wd_top.specs.Head.{Head, max_head, head_end, host_label, head_text, ReadsHead, HasHead, plain_form, ported_form, HasBounded, IsBounded, IsHeadAt}
 use Rattle.wd_top.proofs.FormSteps.{drop_seam}
 
 pub drop_join : (n : ℕ) (a b : List ℕ) → n ≤ length a → drop n (a ++ b) ≡ drop n a ++ b

@@ -1,14 +1,12 @@
 -- A head is read in one way alone, and its parts by runs.
-use Rattle.std.proofs.Common.{◌≡◌, ℕ, zero, suc, ◌+◌, ◌-◌, ◌<◌, ◌≤◌, List, [], ◌∷◌, ◌++◌, length, take, drop, refl, ap, ap₂, sym, ◌∙◌, subst, arith, true, Option, Some, None, append_assoc, append-nil, length-append, length-drop, ◌⊎◌, inl, inr}
+use Rattle.std.proofs.Common.{◌≡◌, ℕ, ◌+◌, ◌-◌, ◌<◌, ◌≤◌, List, ◌∷◌, ◌++◌, length, take, drop, refl, ap, ap₂, sym, ◌∙◌, subst, arith, true, Option, Some, None, append_assoc, length-append, length-drop}
 use Rattle.std.specs.Prelude.{codes, IfSome}
-use Rattle.std.proofs.lemmas.List.{append_cancel_left, length-take-le, take-append-drop}
+use Rattle.std.proofs.lemmas.List.{append_cancel_left}
 use Rattle.std.proofs.Math.Seq.{take-append_seam}
-use Rattle.wd_top.specs.declared.form.Hole.{Hole}
 use Rattle.wd_top.specs.declared.form.Hole.TheVariants as hole
-use Rattle.wd_top.specs.Form.{IsIn, fills, begins_outside, IsRun}
+use Rattle.wd_top.specs.Form.{IsIn, begins_outside, IsRun}
 use Rattle.wd_top.specs.Head.{Head, head_end, host_label, authority, host_value, head_text, ReadsHead}
-use Rattle.wd_top.specs.Conn.{AreHeadParts}
-use Rattle.wd_top.proofs.FormSteps.{same_run, run_exact, drop_seam, rest_of, drop_add}
+use Rattle.wd_top.proofs.FormSteps.{same_run, run_exact, drop_seam}
 use Rattle.wd_top.proofs.HeadSteps.{text_rest}
 
 -- what stands behind the host

@@ -1,6 +1,5 @@
 pub mod FormSteps
 pub mod ScriptSteps
-pub mod HolesSteps
 pub mod HeadSteps
 pub mod HeadUnique
 pub mod StreamSteps
@@ -8,3 +7,11 @@ pub mod FormUnique
 pub mod ConfigSteps
 pub mod EmbedSteps
 pub mod WorldSteps
+pub mod BoardSteps
+pub mod FaultSteps
+pub mod HandleSteps
+pub mod LiveSteps
+pub mod MachineSteps
+pub mod SessionSteps
+pub mod TableSteps
+pub mod TalkSteps

@@ -1,10 +1,9 @@
 -- The stream goes on, and is read in one way alone.
-use Rattle.std.proofs.Common.{◌≡◌, ℕ, ◌+◌, ◌<◌, ◌≤◌, List, [], ◌∷◌, ◌++◌, length, drop, refl, ap, ap₂, sym, ◌∙◌, subst, arith, Bool, true, false, ◌||◌, Option, Some, None, append_assoc, append-nil, ◌⊎◌, inl, inr}
+use Rattle.std.proofs.Common.{◌≡◌, ℕ, List, [], ◌∷◌, ◌++◌, length, refl, ap, ap₂, sym, ◌∙◌, subst, arith, Bool, true, false, ◌||◌, Option, Some, None, append_assoc, append-nil, ◌⊎◌, inl, inr}
 use Rattle.std.proofs.lemmas.Bool.{false≢true}
-use Rattle.std.specs.Prelude.{codes}
 use Rattle.url.specs.Parts.{Parts}
 use Rattle.wd_base.specs.declared.http.ReqData.{ReqData}
-use Rattle.wd_top.specs.Head.{Head, ReadsHead, HasHead, MayBecomeHead, host_value, head_text}
+use Rattle.wd_top.specs.Head.{Head, HasHead, host_value, head_text}
 use Rattle.wd_top.specs.Stream.{Reads, Requests, ReadsAll, closing, request_at, url_of, url_text, UrlOf, EndsAs, RequestsOf, IsFault, IsUnfinished, HasBadUrl}
 use Rattle.wd_top.proofs.HeadUnique.{head_unique, head_more}
 

@@ -136,3 +136,12 @@ Finds gs end bytes (found.At n) = (n ≤ length bytes) × ((holes : List (List �
 Finds gs end bytes (found.Later size) = (length bytes < size) × (size ≤ length bytes + least_size gs end) × Completes gs end bytes size
     × ((more : List ℕ) (holes : List (List ℕ)) (rest : List ℕ) → ReadsForm gs end holes (bytes ++ more) rest → size + length rest ≤ length (bytes ++ more))
 Finds gs end bytes found.Never = (more : List ℕ) (holes : List (List ℕ)) (rest : List ℕ) → ReadsForm gs end holes (bytes ++ more) rest → ⊥
+
+-- the texts in the holes, where the bytes are a text of the form and nothing else
+abbrev pub IsFilled : List Gap → List ℕ → List ℕ → Option (List (List ℕ)) → Type 0
+IsFilled gs end bytes None = (holes : List (List ℕ)) → ReadsForm gs end holes bytes [] → ⊥
+IsFilled gs end bytes (Some holes) = ReadsForm gs end holes bytes []
+
+abbrev pub FillsBehind : List Gap → List ℕ → List ℕ → Bool → List (List ℕ) → List (List ℕ) → Type 0
+FillsBehind gs end bytes false old new = (holes : List (List ℕ)) → ReadsForm gs end holes bytes [] → ⊥
+FillsBehind gs end bytes true old new = (holes : List (List ℕ)) × (new ≡ old ++ holes) × ReadsForm gs end holes bytes []

@@ -1,6 +1,5 @@
 -- A request's head, in the one form that is read.
-use Rattle.std.specs.Prelude.{◌≡◌, ℕ, ◌<◌, ◌≤◌, ◌+◌, List, [], ◌∷◌, ◌++◌, length, drop, codes, Option, Some, None, IfSome}
-use Rattle.wd_top.specs.declared.form.Hole.{Hole}
+use Rattle.std.specs.Prelude.{◌≡◌, ℕ, ◌≤◌, ◌+◌, List, [], ◌∷◌, ◌++◌, length, drop, codes, Option, Some, None, IfSome}
 use Rattle.wd_top.specs.declared.form.Hole.TheVariants as hole
 use Rattle.wd_top.specs.declared.http_in.head.HeadAt.{HeadAt}
 use Rattle.wd_top.specs.declared.http_in.head.HeadAt.TheVariants as at

@@ -1,10 +1,9 @@
 ghost use Rattle.std.specs.Prelude.{◌≡◌, IfOk};
 ghost use Rattle.wd_top.specs.Config.{ConfigOf, PortOf, TextsOf, is_date, has_shape, fits, path_place};
 
-use crate::form::{Hole, Part};
-use crate::holes::read_holes;
+use crate::form::{Hole, Part, fill};
 use std::alloc::Global;
-use wd_base::{Bytes, NoMemory, Same, Seq, TryClone};
+use wd_base::{Bytes, NoMemory, Same, TryClone};
 
 /// What kind of fault a configuration has.
 #[derive(Clone, Copy, Debug, PartialEq, Eq)]
@@ -79,7 +78,7 @@ const END: &[u8] = b"\",\n);\n";
 pub fn read_config(alloc: Global, bytes: &[u8]) -> Result<Option<ConfigText>, NoMemory>
     ensures { IfOk result (λ found. ConfigOf bytes.now found) }
 {
-    match read_holes(alloc, &PARTS, END, bytes, Seq::new(alloc))? {
+    match fill(alloc, &PARTS, END, bytes)? {
         Some(holes) => config_of(alloc, holes.as_slice()),
         None => Ok(None),
     }

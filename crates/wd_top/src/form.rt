@@ -1,5 +1,8 @@
-ghost use Rattle.std.specs.Prelude.{◌≡◌, ◌<◌, ◌≤◌, ◌+◌, ◌^◌, [], true, length, map};
-ghost use Rattle.wd_top.specs.Form.{in_hole, allows, least, gap_of, is_separated, least_size, IsRun, StartsAs, IsNext, Finds};
+ghost use Rattle.std.specs.Prelude.{◌≡◌, ◌<◌, ◌≤◌, ◌+◌, ◌^◌, [], true, length, map, IfOk};
+ghost use Rattle.wd_top.specs.Form.{in_hole, allows, least, gap_of, is_separated, least_size, IsRun, StartsAs, IsNext, Finds, IsFilled, FillsBehind};
+
+use std::alloc::Global;
+use wd_base::{Bytes, NoMemory, Seq};
 
 /// What may stand in a hole of a form.
 #[derive(Clone, Copy, Debug, PartialEq, Eq)]
@@ -186,5 +189,48 @@ fn find_end(end: &[u8], bytes: &[u8]) -> Found
         Start::Whole => Found::At(end.len()),
         Start::Short => Found::Later(end.len()),
         Start::Other => Found::Never,
+    }
+}
+
+/// The texts in the holes, where the bytes are a text of the form and nothing else. What follows a
+/// hole must begin with a byte that is never in it.
+pub fn fill(
+    alloc: Global,
+    parts: &[Part],
+    end: &[u8],
+    bytes: &[u8],
+) -> Result<Option<Seq<Bytes>>, NoMemory>
+    requires separated { is_separated (map gap_of parts.now) end.now ≡ true }
+    ensures { IfOk result (λ found. IsFilled (map gap_of parts.now) end.now bytes.now found) }
+{
+    let mut holes = Seq::new(alloc);
+    if fill_behind(alloc, parts, end, bytes, &mut holes)? {
+        Ok(Some(holes))
+    } else {
+        Ok(None)
+    }
+}
+
+/// Adds the texts in the holes. It tells whether the bytes are a text of the form.
+fn fill_behind(
+    alloc: Global,
+    parts: &[Part],
+    end: &[u8],
+    bytes: &[u8],
+    holes: &mut Seq<Bytes>,
+) -> Result<bool, NoMemory>
+    requires separated { is_separated (map gap_of parts.now) end.now ≡ true }
+    ensures { IfOk result (λ whole. FillsBehind (map gap_of parts.now) end.now bytes.now whole holes.old holes.new) }
+{
+    match parts.split_first() {
+        None => Ok(bytes == end),
+        Some((part, others)) => match next_of(bytes, *part) {
+            Next::Short => Ok(false),
+            Next::Other => Ok(false),
+            Next::At(at) => {
+                holes.push(Seq::copy(alloc, &bytes[part.text.len()..at])?)?;
+                fill_behind(alloc, others, end, &bytes[at..], holes)
+            }
+        },
     }
 }

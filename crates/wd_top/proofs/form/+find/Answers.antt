@@ -1,6 +1,6 @@
 use Rattle.std.proofs.Common.{◌≡◌, ◌∷◌, ◌+◌, length, map, true, subst, sym, ap, ap₂, ◌∙◌, max}
 use Rattle.wd_top.specs.declared.form.Found.TheVariants as found
-use Rattle.wd_top.specs.Form.{gap_of, is_separated, least, least_size, Finds}
+use Rattle.wd_top.specs.Form.{gap_of, is_separated, least, Finds}
 use Rattle.wd_top.proofs.FormSteps.{short_later, other_never, found_at, found_later, found_never, slice_finds}
 use Rattle.wd_top.proofs.form.+find.Goals as goal
 

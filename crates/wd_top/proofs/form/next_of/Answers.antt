@@ -1,4 +1,4 @@
-use Rattle.std.proofs.Common.{◌≡◌, ◌≤◌, arith}
+use Rattle.std.proofs.Common.{◌≤◌, arith}
 use Rattle.wd_top.specs.Form.{gap_of, least}
 use Rattle.wd_top.proofs.FormSteps.{next_at, next_other}
 use Rattle.wd_top.proofs.form.next_of.Goals as goal

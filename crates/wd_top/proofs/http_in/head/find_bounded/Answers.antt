@@ -1,6 +1,6 @@
-use Rattle.std.proofs.Common.{◌≤◌, length, map, subst, sym, arith, take}
+use Rattle.std.proofs.Common.{◌≤◌, length, map, subst, sym, arith}
 use Rattle.wd_top.specs.declared.form.Found.TheVariants as found
-use Rattle.wd_top.specs.Form.{gap_of, Finds, least_size}
+use Rattle.wd_top.specs.Form.{gap_of, Finds}
 use Rattle.wd_top.specs.Head.{max_head, head_end}
 use Rattle.wd_top.proofs.HeadSteps.{length_first, bounded_at, bounded_later, bounded_large, bounded_never}
 use Rattle.wd_top.proofs.http_in.head.find_bounded.Goals as goal

@@ -1,4 +1,4 @@
-use Rattle.std.proofs.Common.{◌≡◌, ◌+◌, ◌-◌, ◌∙◌, take, drop, length, subst, ap, arith}
+use Rattle.std.proofs.Common.{◌≡◌, ◌+◌, ◌-◌, ◌∙◌, take, drop, subst, ap, arith}
 use Rattle.wd_top.specs.declared.form.Hole.TheVariants as hole
 use Rattle.wd_top.specs.Form.{IsRun}
 use Rattle.wd_top.proofs.FormSteps.{rest_of}
