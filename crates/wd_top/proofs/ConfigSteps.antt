@@ -14,8 +14,7 @@ use Rattle.wd_base.specs.declared.ids.NoMemory.{NoMemory}
 use Rattle.wd_top.specs.declared.config.ConfigText.{ConfigText}
 use Rattle.wd_top.specs.Config.{config_form, config_end, texts_of, IsConfig, ConfigOf, TextsOf}
 use Rattle.wd_top.specs.Form.{ReadsForm, IsFilled}
-use Rattle.wd_top.proofs.FormSteps.{same_self}
-use Rattle.wd_top.proofs.FormUnique.{form_unique}
+use Rattle.wd_top.proofs.FormSteps.{same_self, form_unique}
 
 -- a port's decimal is a text
 pub no_text : (digits : List ℕ) → (IsUtf8 digits → ⊥) → (port : ℕ) → 0 < port → port < 2 ^ 16 → digits ≡ decimal port → ⊥
@@ -45,7 +44,7 @@ same_port digits r n parses good port small e = ap value_of (sym good ∙ parse-
 pub texts_say : (bytes : List ℕ) (holes : List (List ℕ)) (found : Option ConfigText) → ReadsForm config_form config_end holes bytes [] → TextsOf holes found → ConfigOf bytes found
 texts_say bytes holes (Some t) reads (e, some, small, date) =
     record { reads = subst (λ hs. ReadsForm config_form config_end hs bytes []) e reads; some = some; small = small; date = date }
-texts_say bytes holes None reads none = λ t is. none t is.some is.small is.date (form_unique config_form config_end bytes holes (texts_of t) refl reads is.reads)
+texts_say bytes holes None reads none = λ t is. none t is.some is.small is.date (form_unique config_form config_end holes (texts_of t) bytes [] [] refl reads is.reads).0
 
 pub texts_say_ok : (bytes : List ℕ) (holes : List (List ℕ)) (r : Result (Option ConfigText) NoMemory) → ReadsForm config_form config_end holes bytes [] → IfOk r (λ found. TextsOf holes found) → IfOk r (λ found. ConfigOf bytes found)
 texts_say_ok bytes holes (Ok found) reads says = texts_say bytes holes found reads says

@@ -3,7 +3,6 @@ pub mod ScriptSteps
 pub mod HeadSteps
 pub mod HeadUnique
 pub mod StreamSteps
-pub mod FormUnique
 pub mod ConfigSteps
 pub mod EmbedSteps
 pub mod WorldSteps
@@ -15,3 +14,5 @@ pub mod MachineSteps
 pub mod SessionSteps
 pub mod TableSteps
 pub mod TalkSteps
+pub mod Told
+pub mod ListenSteps

@@ -17,3 +17,4 @@ pub mod Session
 pub mod Steps
 pub mod Table
 pub mod Talk
+pub mod Ended

@@ -15,7 +15,9 @@ ghost use Rattle.wd_top.specs.Steps.{Answers};
 
 use std::alloc::Global;
 use std::marker::Model;
-use wd_base::{Bytes, LinkNo, NoMemory, Origin, Reply, Req, ReqData, Seat, SockNo, TryClone};
+use wd_base::{
+    Bytes, LinkNo, NoMemory, Origin, Reply, Req, ReqData, Seat, SockNo, Sockets, TryClone,
+};
 use wd_graph::World;
 use wd_machine::{Entries, Entry, Head, Isolate, Journal, Machine, Places};
 
@@ -220,6 +222,13 @@ impl<I: Isolate> Board<I> {
         ensures { IsRun I.means self.now.0 self.now.1 }
     {
         let _ = &self.entries;
+    }
+
+    /// The sockets of the world, in order.
+    pub fn sockets(&self) -> &Sockets
+        ensures { result.now ≡ self.now.0.sockets }
+    {
+        self.world.sockets()
     }
 
     /// A request over a link that came at a socket, from its arrival to the end of its turn. It

@@ -14,5 +14,4 @@ mod outcome;
 mod prepare;
 mod script;
 mod seat;
-#[cfg(test)]
-mod tests;
+mod session;

@@ -89,6 +89,7 @@ fn kind_text(kind: ConfigKind) -> &'static [u8]
     }
 }
 
+#[tactic(auto, unfolding(crate::specs::Outcome::config_text))]
 fn config_text(alloc: Global, fault: &ConfigFault) -> Result<Vec<u8>, NoMemory>
     ensures { IfOk result (λ text. text.items ≡ config_text fault.now) }
 {
@@ -101,6 +102,7 @@ fn config_text(alloc: Global, fault: &ConfigFault) -> Result<Vec<u8>, NoMemory>
     Ok(text)
 }
 
+#[tactic(auto, unfolding(crate::specs::Outcome::port_text))]
 fn port_text(alloc: Global, seat: Seat) -> Result<Vec<u8>, NoMemory>
     ensures { IfOk result (λ text. text.items ≡ port_text seat) }
 {
@@ -108,6 +110,7 @@ fn port_text(alloc: Global, seat: Seat) -> Result<Vec<u8>, NoMemory>
     framed(alloc, b"error: port ", number.as_bytes(), b"\n")
 }
 
+#[tactic(auto, unfolding(crate::specs::Outcome::listen_text))]
 fn listen_text(alloc: Global, address: &Addr) -> Result<Vec<u8>, NoMemory>
     ensures { IfOk result (λ text. text.items ≡ listen_text address.now) }
 {

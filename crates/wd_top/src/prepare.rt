@@ -1,4 +1,4 @@
-ghost use Rattle.std.specs.Prelude.{◌≡◌, ◌<◌, ◌≤◌, ◌^◌, ◌↔◌, length, map, string_bytes, IsTrue, IfOk, IfErr, IfSome};
+ghost use Rattle.std.specs.Prelude.{◌≡◌, ◌<◌, ◌≤◌, ◌^◌, ◌↔◌, List, ℕ, Option, [], ◌∷◌, length, map, string_bytes, IsTrue, IfOk, IfErr, IfSome};
 ghost use Rattle.wd_graph.specs.Links.{linked, first_unknown};
 ghost use Rattle.wd_graph.specs.Names.{names_differ};
 ghost use Rattle.wd_ports.specs.Faults.{ReadFile, RoseIn, part};
@@ -6,8 +6,9 @@ ghost use Rattle.wd_ports.specs.Told.{file_at};
 ghost use Rattle.wd_top.specs.declared.outcome.Outcome.TheVariants as outcome;
 ghost use Rattle.wd_top.specs.Command.{command};
 ghost use Rattle.wd_top.specs.Config.{IsConfig};
+ghost use Rattle.wd_top.specs.Constant.{first_constant};
 ghost use Rattle.wd_top.specs.Script.{answer_of};
-ghost use Rattle.wd_top.specs.Plan.{Plans, AtFile, AtText, AtAnswer, config_with, config_of, worker_of, worker_names, other_form, missing_file};
+ghost use Rattle.wd_top.specs.Plan.{Plans, AtFile, AtText, AtSource, AtAnswer, config_with, config_of, worker_of, worker_names, other_form, missing_file};
 ghost use Rattle.wd_top.specs.Prepare.{ShowsRead, IsReadFault, plan_of, IsFault, IsReady, IsPrepared, IsLate, IsEarly, IsMissing, IsFaulty, IsConfigFault};
 
 use crate::command::command;
@@ -160,31 +161,58 @@ fn world(alloc: Global, config: Config) -> Result<World, NoMemory>
     }
 }
 
+/// The first isolate of the Worker, whose script answers a text.
+fn constant(
+    alloc: Global,
+    text: &ConfigText,
+    worker: &WorkerDef,
+    answer: Bytes,
+) -> Result<Constant, NoMemory>
+    ensures { IfOk result (λ isolate. isolate ≡ first_constant worker.now (worker_names text.now) answer) }
+{
+    let worker = worker.try_clone(alloc)?;
+    let workers = worker_names(alloc, text)?;
+    Ok(Constant {
+        worker,
+        workers,
+        text: answer,
+        generation: 0,
+    })
+}
+
+/// The list of one isolate.
+fn only(alloc: Global, isolate: Constant) -> Result<Vec<Constant>, NoMemory>
+    ensures { IfOk result (λ isolates. isolates.items ≡ isolate ∷ []) }
+{
+    let mut isolates = Vec::new(alloc);
+    match isolates.push(isolate) {
+        Ok(()) => Ok(isolates),
+        Err(_) => Err(NoMemory),
+    }
+}
+
 /// What is to be served, where the script answers a text.
-#[tactic(auto, using(crate::proofs::WorldSteps::all_known, crate::proofs::WorldSteps::are_first))]
-fn make_ready(alloc: Global, text: ConfigText, source: Bytes, answer: Bytes) -> Result<Ready, NoMemory>
+fn make_ready(
+    alloc: Global,
+    text: ConfigText,
+    source: Bytes,
+    answer: Bytes,
+) -> Result<Ready, NoMemory>
     requires { answer_of source ≡ Some answer }
     ensures { IfOk result (IsReady (linked (config_with text source))) }
 {
     let worker = worker(alloc, source)?;
-    let isolate = Constant {
-        worker: worker.try_clone(alloc)?,
-        workers: worker_names(alloc, &text)?,
-        text: answer,
-        generation: 0,
-    };
+    let isolate = constant(alloc, &text, &worker, answer)?;
     let config = config(alloc, text, worker)?;
     let world = world(alloc, config)?;
-    let mut isolates = Vec::new(alloc);
-    if isolates.push(isolate).is_err() {
-        return Err(NoMemory);
-    }
+    let isolates = only(alloc, isolate)?;
     Ok(Ready { world, isolates })
 }
 
 /// At the script of a configuration.
 fn at_source(alloc: Global, text: ConfigText, source: Bytes) -> Result<Ready, Outcome>
     ensures plan { IfSome (plan_of result) (AtAnswer text source (answer_of source)) }
+    ensures fault { IsFault result → ⊥ }
     ensures late { IsLate result }
 {
     match answer_of(alloc, source.as_slice()) {
@@ -213,10 +241,22 @@ fn at_text<F: Files>(
     ensures tells { F.told files.new ≡ F.told files.old }
     ensures late { IsLate result }
 {
-    let Ok(path) = embedded_path(alloc, config, &text.path) else {
-        return Err(Outcome::NoMemory);
-    };
-    match read_file(alloc, files, path.as_str()) {
+    match embedded_path(alloc, config, &text.path) {
+        Err(NoMemory) => Err(Outcome::NoMemory),
+        Ok(path) => {
+            let found = read_file(alloc, files, path.as_str());
+            at_found(alloc, bytes, text, found)
+        }
+    }
+}
+
+/// At what was found of the embedded file.
+fn at_found(alloc: Global, bytes: &[u8], text: ConfigText, found: Found) -> Result<Ready, Outcome>
+    ensures plan { (told : Option (List ℕ)) → ShowsRead told found → IfSome (plan_of result) (AtSource bytes.now text told) }
+    ensures fault { IsFault result → IsReadFault found }
+    ensures late { IsLate result }
+{
+    match found {
         Found::NoMemory => Err(Outcome::NoMemory),
         Found::Fault => Err(faulty(alloc, text.path.as_slice())),
         Found::Missing => Err(missing_embed(bytes, text)),
