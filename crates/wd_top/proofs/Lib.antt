@@ -16,3 +16,5 @@ pub mod TableSteps
 pub mod TalkSteps
 pub mod Told
 pub mod ListenSteps
+pub mod PlanUnique
+pub mod EndSteps

@@ -124,17 +124,31 @@ Caused words files read_rose maker_rose world outcome.NoMemory = Unit {0}
 abbrev pub IsEmpty : Journal → ℕ → Type 0
 IsEmpty journal ports = (journal.entries ≡ []) × (ports ≡ 0)
 
--- How a call ended: its outcome with its cause, and what was printed of it; the world, of which the journal is a legal
--- run; and what holds of the ports that are handed out. An outcome without a session leaves nothing.
-pub record Ends (words : List (List ℕ)) (files : Option Stored) (read_rose maker_rose : Type 0) (held held' : Option (List ℕ)) (count count' status : ℕ) (journal : Journal) (ports : ℕ) (at_ports : Config → Outcome → Type 0) : Type 0 where
-  pub outcome : Outcome
-  pub world : Config
-  pub caused : Caused words files read_rose maker_rose world outcome
-  pub reports : Reports outcome status held held' count count'
-  pub early : IsEarly outcome → IsEmpty journal ports
+-- what a session leaves: a whole journal that is a legal run of the world, one port where one was made, and what holds of it
+pub record Ran (world : Config) (maker_rose : Type 0) (o : Outcome) (journal : Journal) (ports : ℕ) (at_ports : Type 0) : Type 0 where
+  pub end : IsSessionEnd o
   pub whole : journal.head ≡ Whole
   pub run : legal constant_means world journal ≡ true
-  pub at : at_ports world outcome
+  pub one : HasPort o → ports ≡ 1
+  pub none : NoPortMade o → (ports ≡ 0) × maker_rose
+  pub at : at_ports
+
+-- An outcome with its cause, and what it leaves: a whole journal that is a legal run of the world, one port where one was
+-- made, and what holds of it. An outcome without a session leaves nothing.
+pub record Comes (words : List (List ℕ)) (files : Option Stored) (read_rose maker_rose : Type 0) (o : Outcome) (journal : Journal) (ports : ℕ) (at_ports : Config → Type 0) : Type 0 where
+  pub world : Config
+  pub caused : Caused words files read_rose maker_rose world o
+  pub early : IsEarly o → IsEmpty journal ports ⊎ (o ≡ outcome.NoMemory)
+  pub whole : journal.head ≡ Whole
+  pub run : legal constant_means world journal ≡ true
+  pub one : HasPort o → ports ≡ 1
+  pub at : at_ports world
+
+-- how a call ended: its outcome, and what was printed of it
+pub record Ends (words : List (List ℕ)) (files : Option Stored) (read_rose maker_rose : Type 0) (held held' : Option (List ℕ)) (count count' status : ℕ) (journal : Journal) (ports : ℕ) (at_ports : Outcome → Config → Type 0) : Type 0 where
+  pub outcome : Outcome
+  pub comes : Comes words files read_rose maker_rose outcome journal ports (at_ports outcome)
+  pub reports : Reports outcome status held held' count count'
 
 -- the statuses that a plan allows, where no read and no print failed and memory was there: just one, but for a session
 abbrev pub status_for : Plan → ℕ → Type 0

@@ -15,3 +15,6 @@ mod prepare;
 mod script;
 mod seat;
 mod session;
+mod top;
+
+pub use top::{Ended, workerd};
