@@ -98,6 +98,13 @@ impl MemPort {
         })
     }
 
+    /// How many links this port gave. They are numbered from 1.
+    pub fn given(&self) -> usize
+        ensures { result ≡ (mem_told self.now).given }
+    {
+        self.links.len()
+    }
+
     /// What was sent on a link that this port gave.
     pub fn sent(&self, link: LinkNo) -> &Bytes
         requires { (0 < link.0) × (link.0 ≤ (mem_told self.now).given) }

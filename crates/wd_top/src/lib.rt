@@ -15,6 +15,8 @@ mod prepare;
 mod script;
 mod seat;
 mod session;
+#[cfg(test)]
+mod tests;
 mod top;
 
 pub use top::{Ended, workerd};

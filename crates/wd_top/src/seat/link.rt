@@ -1,4 +1,4 @@
-ghost use Rattle.std.specs.Prelude.{◌≡◌, ℕ, ◌<◌, Some, length, take, IsErrOf};
+ghost use Rattle.std.specs.Prelude.{◌⊎◌, ◌≡◌, ℕ, ◌<◌, Some, length, take, IsErrOf};
 ghost use Rattle.wd_ports.specs.Links.{Keeps, Stays};
 ghost use Rattle.wd_ports.specs.Send.{Sends};
 ghost use Rattle.wd_top.specs.declared.seat.link.Heard.{Heard as HeardIs};
@@ -102,8 +102,25 @@ pub fn hear<P: Port>(
         Err(Failed::Fault) => Heard::Lost,
         Err(Failed::NoMemory) => Heard::Full,
         Ok(Got::End) => Heard::End,
-        Ok(Got::Later) => Heard::Nothing,
+        Ok(Got::Later) => nothing_or_lost(port, link),
         Ok(Got::Bytes(count)) => feed(alloc, run, &buf[..count]),
+    }
+}
+
+/// Nothing has come on the link, unless it is gone.
+fn nothing_or_lost<P: Port>(port: &mut P, link: LinkNo) -> Heard
+    requires { P.usable port.old link }
+    ensures which { (result ≡ HeardIs.Nothing) ⊎ (result ≡ HeardIs.Lost) }
+    ensures lost { result ≡ HeardIs.Lost → P.gone port.new link }
+    ensures tells { P.told port.new ≡ P.told port.old }
+    ensures keeps { Keeps (P.usable port.old) (P.side port.old) (P.usable port.new) (P.side port.new) }
+    ensures stays { Stays (P.gone port.old) (P.gone port.new) }
+    ensures faults { P.faults port.new ≡ P.faults port.old }
+{
+    if port.gone(link) {
+        Heard::Lost
+    } else {
+        Heard::Nothing
     }
 }
 
