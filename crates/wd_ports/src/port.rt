@@ -133,9 +133,10 @@ pub trait Port: Files + Drop {
         ensures stays { Stays (Self.gone self.old) (Self.gone self.new) }
         ensures memory { IsErrOf result Failed.NoMemory → AddsNone (Self.usable self.old) (Self.side self.old) (Self.gone self.old) (Self.usable self.new) (Self.side self.new) (Self.gone self.new) };
 
-    /// Whether the link is gone. A port that tells no links may answer either.
+    /// Whether the link is gone. A port that tells no links may answer that it is not.
     fn gone(&mut self, link: LinkNo) -> bool
         requires { Self.usable self.old link }
+        ensures found { IsTrue result → Self.gone self.new link }
         ensures answer { IsSome (Self.told self.old).links → (IsTrue result ↔ Self.gone self.new link) }
         ensures tells { Self.told self.new ≡ Self.told self.old }
         ensures blames { Self.faults self.new ≡ Self.faults self.old }
