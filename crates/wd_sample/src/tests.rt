@@ -86,45 +86,91 @@ fn number(kept: &Kept) -> u64 {
     }
 }
 
+/// An entry to apply.
+#[derive(Drop)]
+enum Step<'a> {
+    Arrive {
+        seat: u32,
+        req: u64,
+        service: &'a [u8],
+        allow: u32,
+    },
+    Begin {
+        seat: u32,
+        req: u64,
+    },
+    Turn {
+        req: u64,
+        steps: u32,
+    },
+}
+
+fn entry_of(alloc: Global, step: &Step<'_>) -> Result<Entry, NoMemory> {
+    match step {
+        Step::Arrive {
+            seat,
+            req,
+            service,
+            allow,
+        } => arrive(alloc, *seat, *req, service, *allow),
+        Step::Begin { seat, req } => Ok(begin(*seat, *req)),
+        Step::Turn { req, steps } => turn(alloc, *req, *steps),
+    }
+}
+
+/// Whether each step in turn came to what stands beside it.
+fn came_so(alloc: Global, steps: &[(Step<'_>, u8, u64)]) -> Result<bool, NoMemory> {
+    let mut core = hello_core(alloc)?;
+    for (step, rule, kept) in steps {
+        let entry = entry_of(alloc, step)?;
+        let (broken, number) = refusal(core.apply(&entry));
+        if broken != *rule || number != *kept {
+            return Ok(false);
+        }
+    }
+    Ok(true)
+}
+
+fn arrival(seat: u32, req: u64, service: &[u8], allow: u32) -> Step<'_> {
+    Step::Arrive {
+        seat,
+        req,
+        service,
+        allow,
+    }
+}
+
 #[test]
 fn arrivals(rt: HostRuntime) -> Result<(), NoMemory> {
-    let alloc = rt.alloc();
-    let mut core = hello_core(alloc)?;
-    let first = core.apply(&arrive(alloc, 63, 1, b"hello", 1000)?);
-    assert!(&rt; refusal(first) == (0, 0));
-    let far = core.apply(&arrive(alloc, 64, 2, b"hello", 1000)?);
-    assert!(&rt; refusal(far) == (1, 64));
-    let zero = core.apply(&arrive(alloc, 0, 0, b"hello", 1000)?);
-    assert!(&rt; refusal(zero) == (3, 0));
-    let again = core.apply(&arrive(alloc, 0, 1, b"hello", 1000)?);
-    assert!(&rt; refusal(again) == (3, 1));
-    let unknown = core.apply(&arrive(alloc, 0, 2, b"hallo!", 1000)?);
-    assert!(&rt; refusal(unknown) == (4, 6));
-    let private = core.apply(&arrive(alloc, 0, 2, b"internet", 1000)?);
-    assert!(&rt; refusal(private) == (5, 8));
-    let poor = core.apply(&arrive(alloc, 0, 2, b"hello", 999)?);
-    assert!(&rt; refusal(poor) == (6, 1000));
+    let steps = [
+        (arrival(63, 1, b"hello", 1000), 0, 0),
+        (arrival(64, 2, b"hello", 1000), 1, 64),
+        (arrival(0, 0, b"hello", 1000), 3, 0),
+        (arrival(0, 1, b"hello", 1000), 3, 1),
+        (arrival(0, 2, b"hallo!", 1000), 4, 6),
+        (arrival(0, 2, b"internet", 1000), 5, 8),
+        (arrival(0, 2, b"hello", 999), 6, 1000),
+    ];
+    assert!(&rt; came_so(rt.alloc(), &steps)?);
     Ok(())
 }
 
 #[test]
 fn turns(rt: HostRuntime) -> Result<(), NoMemory> {
-    let alloc = rt.alloc();
-    let mut core = hello_core(alloc)?;
-    core.apply(&arrive(alloc, 0, 1, b"hello", 1000)?).ok();
-    core.apply(&arrive(alloc, 0, 2, b"hello", 1000)?).ok();
-    assert!(&rt; refusal(core.apply(&begin(0, 3))) == (9, 3));
-    assert!(&rt; refusal(core.apply(&begin(1, 1))) == (9, 1));
-    assert!(&rt; refusal(core.apply(&begin(0, 2))) == (10, 1));
-    assert!(&rt; refusal(core.apply(&begin(0, 1))) == (0, 0));
-    assert!(&rt; refusal(core.apply(&begin(0, 2))) == (11, 1));
-    let other = core.apply(&turn(alloc, 2, 1)?);
-    assert!(&rt; refusal(other) == (14, 1));
-    let longer = core.apply(&turn(alloc, 1, 2)?);
-    assert!(&rt; refusal(longer) == (15, 77));
-    let right = core.apply(&turn(alloc, 1, 1)?);
-    assert!(&rt; refusal(right) == (0, 0));
-    assert!(&rt; refusal(core.apply(&begin(0, 1))) == (9, 1));
-    assert!(&rt; refusal(core.apply(&begin(0, 2))) == (0, 0));
+    let steps = [
+        (arrival(0, 1, b"hello", 1000), 0, 0),
+        (arrival(0, 2, b"hello", 1000), 0, 0),
+        (Step::Begin { seat: 0, req: 3 }, 9, 3),
+        (Step::Begin { seat: 1, req: 1 }, 9, 1),
+        (Step::Begin { seat: 0, req: 2 }, 10, 1),
+        (Step::Begin { seat: 0, req: 1 }, 0, 0),
+        (Step::Begin { seat: 0, req: 2 }, 11, 1),
+        (Step::Turn { req: 2, steps: 1 }, 14, 1),
+        (Step::Turn { req: 1, steps: 2 }, 15, 77),
+        (Step::Turn { req: 1, steps: 1 }, 0, 0),
+        (Step::Begin { seat: 0, req: 1 }, 9, 1),
+        (Step::Begin { seat: 0, req: 2 }, 0, 0),
+    ];
+    assert!(&rt; came_so(rt.alloc(), &steps)?);
     Ok(())
 }
