@@ -1,8 +1,8 @@
 -- Rows that are found by a test.
-use Rattle.std.proofs.Common.{◌≡◌, ℕ, zero, suc, ◌+◌, ◌<◌, Bool, true, false, not, ◌||◌, cond, List, [], ◌∷◌, ◌++◌, length, flat_map, map, Option, Some, None, option_map, if◌then◌else◌, refl, sym, ap, ◌∙◌, arith, nat_eq, ◌&&◌}
+use Rattle.std.proofs.Common.{◌≡◌, ℕ, ◌+◌, ◌<◌, Bool, true, false, not, ◌||◌, cond, List, [], ◌∷◌, ◌++◌, length, map, Some, None, option_map, if◌then◌else◌, refl, sym, ap, ◌∙◌, arith, nat_eq, ◌&&◌}
 use Rattle.std.proofs.lemmas.Bool.{false≢true}
 use Rattle.std.proofs.lemmas.Bool.Decides.{nat_tests}
-use Rattle.std.specs.List.{position_from, find, list_any}
+use Rattle.std.specs.List.{position_from, find}
 use Rattle.wd_base.specs.declared.config.Service.{Service}
 use Rattle.wd_graph.specs.Names.{same_name, is_named, has_name, names_differ}
 use Rattle.wd_graph.specs.Links.{with_internet, internet, internet_name}
@@ -92,4 +92,21 @@ names_differ_internet ss differ =
     elim (has_name ss internet_name) as (λ b. has_name ss internet_name ≡ b → names_differ (if b then ss else ss ++ internet ∷ []) ≡ true) [
       | true ↦ λ e. differ
       | false ↦ λ e. differ_push ss internet e differ
+    ] refl
+
+or_true : (b : Bool) → (b || true) ≡ true
+or_true true = refl
+or_true false = refl
+
+-- the last service has its name
+last_known : (ss : List Service) (s : Service) → is_named s.name s ≡ true → has_name (ss ++ s ∷ []) s.name ≡ true
+last_known [] s same = rw same refl
+last_known (x ∷ xs) s same = ap (λ b. is_named s.name x || b) (last_known xs s same) ∙ or_true (is_named s.name x)
+
+-- there is a service called `internet` among them
+pub internet_known : (ss : List Service) → has_name (with_internet ss) internet_name ≡ true
+internet_known ss =
+    elim (has_name ss internet_name) as (λ b. has_name ss internet_name ≡ b → has_name (if b then ss else ss ++ internet ∷ []) internet_name ≡ true) [
+      | true ↦ λ e. e
+      | false ↦ λ e. last_known ss internet refl
     ] refl

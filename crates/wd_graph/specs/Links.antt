@@ -1,5 +1,5 @@
 -- What it is for the names of a configuration to be known.
-use Rattle.std.specs.Prelude.{ℕ, ◌≡◌, Bool, true, false, not, List, [], ◌∷◌, ◌++◌, flat_map, map, if◌then◌else◌, Option, Some, None, Result, Ok, Err}
+use Rattle.std.specs.Prelude.{ℕ, ◌≡◌, Bool, not, List, [], ◌∷◌, ◌++◌, flat_map, map, if◌then◌else◌, Option, Some, None, Result, Ok, Err, codes}
 use Rattle.std.specs.List.{find}
 use Rattle.wd_base.specs.declared.config.Config.{Config}
 use Rattle.wd_base.specs.declared.config.Kind.TheVariants.{Network}
@@ -12,9 +12,9 @@ use Rattle.wd_graph.specs.declared.linking.LinkEnd.{LinkEnd}
 use Rattle.wd_graph.specs.declared.linking.LinkEnd.TheVariants.{Unknown, NoMemory}
 use Rattle.wd_graph.specs.Names.{targets, has_name, worker_in}
 
--- the name `internet`
+-- the name of the network that a world always has
 abbrev pub internet_name : List ℕ
-internet_name = 105 ∷ 110 ∷ 116 ∷ 101 ∷ 114 ∷ 110 ∷ 101 ∷ 116 ∷ []
+internet_name = codes "internet"
 
 -- a network that allows the public addresses and denies nothing
 abbrev pub internet : Service

@@ -1,8 +1,7 @@
 -- Services by their names, and the services that a Worker reaches.
-use Rattle.std.specs.Prelude.{ℕ, nat_eq, Bool, true, false, not, ◌&&◌, List, [], ◌∷◌, ◌++◌, filter, flat_map, map, Option, Some, None, is_some}
+use Rattle.std.specs.Prelude.{ℕ, nat_eq, Bool, true, not, ◌&&◌, List, [], ◌∷◌, ◌++◌, filter, flat_map, Option, Some, None, is_some}
 use Rattle.std.specs.List.{find, list_any, position_from}
 use Rattle.std.specs.Cmp.Lexicographic.{pointwise}
-use Rattle.wd_base.specs.declared.config.Binding.{Binding}
 use Rattle.wd_base.specs.declared.config.BindValue.{BindValue}
 use Rattle.wd_base.specs.declared.config.BindValue.TheVariants.{Text, Buffer, Json, Service as Bound}
 use Rattle.wd_base.specs.declared.config.Config.{Config}

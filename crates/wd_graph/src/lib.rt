@@ -2,6 +2,8 @@
 #![tactic(auto)]
 
 mod linking;
+#[cfg(test)]
+mod tests;
 mod world;
 
 pub use linking::{GraphFault, LinkEnd, link};

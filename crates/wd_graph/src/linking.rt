@@ -30,7 +30,7 @@ pub enum LinkEnd {
 ///
 /// Where no service is called `internet`, one is added as the last: a network that allows the
 /// public addresses and denies none.
-#[tactic(auto, using(crate::proofs::FindLemmas::names_differ_internet))]
+#[tactic(auto, using(crate::proofs::FindLemmas::names_differ_internet, crate::proofs::FindLemmas::internet_known))]
 pub fn link(alloc: Global, config: Config) -> Result<World, LinkEnd>
     requires few { length config.services < 2 ^ 31 }
     requires differ { IsTrue (names_differ config.services) }

@@ -15,25 +15,29 @@ pub struct World {
 }
 
 impl Model for World {
-    ghost use Rattle.std.specs.Prelude.{◌<◌, ◌^◌, length, IsTrue};
+    ghost use Rattle.std.specs.Prelude.{◌≡◌, ◌<◌, ◌^◌, None, length, IsTrue};
     ghost use Rattle.wd_base.specs.declared.config.Config.{Config};
-    ghost use Rattle.wd_graph.specs.Names.{names_differ};
+    ghost use Rattle.wd_graph.specs.Links.{first_unknown, internet_name};
+    ghost use Rattle.wd_graph.specs.Names.{has_name, names_differ};
 
     ghost Value = { Config };
 
     ghost view = { λ w. record { services = w.services; sockets = w.sockets } };
 
-    ghost invariant = { λ w. (length w.services < 2 ^ 32) × IsTrue (names_differ w.services) };
+    ghost invariant = { λ w. (length w.services < 2 ^ 32) × IsTrue (names_differ w.services) × (first_unknown (record { services = w.services; sockets = w.sockets }) ≡ None) × IsTrue (has_name w.services internet_name) };
 }
 
 impl World {
-    ghost use Rattle.std.specs.Prelude.{◌≡◌, ◌<◌, ◌^◌, Some, length, slice_get, option_map, IsTrue};
-    ghost use Rattle.wd_graph.specs.Names.{names_differ, number_of};
+    ghost use Rattle.std.specs.Prelude.{◌≡◌, ◌<◌, ◌^◌, Some, None, length, slice_get, option_map, IsTrue};
+    ghost use Rattle.wd_graph.specs.Links.{first_unknown, internet_name};
+    ghost use Rattle.wd_graph.specs.Names.{has_name, names_differ, number_of};
 
     /// The world of these services and sockets.
     pub(crate) fn of(services: Services, sockets: Sockets) -> World
         requires few { length services < 2 ^ 32 }
         requires differ { IsTrue (names_differ services) }
+        requires known { first_unknown (record { services = services; sockets = sockets }) ≡ None }
+        requires internet { IsTrue (has_name services internet_name) }
         ensures { result ≡ record { services = services; sockets = sockets } }
     {
         World { services, sockets }
