@@ -1,9 +1,8 @@
 -- A run that goes on by one entry.
-use Rattle.std.proofs.Common.{◌≡◌, ℕ, Bool, true, false, ◌&&◌, List, [], ◌∷◌, ◌++◌, Option, Some, None, refl, sym, ap, ◌∙◌}
+use Rattle.std.proofs.Common.{◌≡◌, ℕ, Bool, true, false, ◌&&◌, List, [], ◌∷◌, ◌++◌, refl}
 use Rattle.std.specs.Prelude.{is_none}
 use Rattle.wd_base.specs.declared.config.Config.{Config}
 use Rattle.wd_machine.specs.declared.journal.Entry.{Entry}
-use Rattle.wd_machine.specs.declared.journal.Head.{Head}
 use Rattle.wd_machine.specs.declared.journal.Journal.{Journal}
 use Rattle.wd_machine.specs.declared.state.State.{State}
 use Rattle.wd_machine.specs.First.{first_state}

@@ -1,8 +1,8 @@
 -- What a program's changes of the tables make of the state.
-use Rattle.std.proofs.Common.{◌≡◌, ℕ, zero, suc, ◌<◌, ◌==◌, Bool, true, false, not, if◌then◌else◌, List, [], ◌∷◌, ◌++◌, map, filter, get_or, set, Option, Some, None, Result, Ok, Err, OnOk, refl, sym, ap, ◌∙◌, subst, arith}
+use Rattle.std.proofs.Common.{◌≡◌, ℕ, ◌==◌, Bool, true, false, not, if◌then◌else◌, List, [], ◌∷◌, ◌++◌, map, filter, get_or, set, Option, Some, None, Result, Ok, Err, OnOk, refl, sym, ap, ◌∙◌, subst}
 use Rattle.std.proofs.lemmas.Bool.{eqb-true}
 use Rattle.std.proofs.lemmas.List.{set-get_or}
-use Rattle.std.specs.List.{position_from, find}
+use Rattle.std.specs.List.{position_from}
 use Rattle.wd_base.specs.declared.http.ReqData.{ReqData}
 use Rattle.wd_base.specs.declared.ids.Req.{Req}
 use Rattle.wd_base.specs.declared.ids.Seat.{Seat}
@@ -16,7 +16,6 @@ use Rattle.wd_machine.specs.declared.state.Run.{Run}
 use Rattle.wd_machine.specs.declared.state.State.{State}
 use Rattle.wd_machine.specs.declared.state.Waiter.{Waiter}
 use Rattle.wd_machine.specs.declared.state.WorkerState.{WorkerState}
-use Rattle.wd_machine.specs.declared.turn.Out.{Out}
 use Rattle.wd_machine.specs.Ends.{waits_in, ends, whole_out, freed_by}
 use Rattle.wd_machine.specs.Found.{is_request, is_worker, request_of, worker_of, worker_for, service_at, waiters_at}
 use Rattle.wd_machine.specs.Keyed.{change}

@@ -1,5 +1,5 @@
 -- When a turn ends its request, and the reply that a request gets that can have no other.
-use Rattle.std.specs.Prelude.{ℕ, ◌==◌, Bool, true, false, not, ◌&&◌, ◌||◌, if◌then◌else◌, List, [], ◌∷◌, ◌++◌, length, filter, map, Option, Some, None, is_some}
+use Rattle.std.specs.Prelude.{ℕ, ◌==◌, Bool, not, ◌&&◌, ◌||◌, if◌then◌else◌, List, [], ◌∷◌, ◌++◌, length, filter, Option, Some, codes, is_some}
 use Rattle.std.specs.List.{list_any}
 use Rattle.wd_base.specs.declared.http.Reply.{Reply}
 use Rattle.wd_base.specs.declared.http.Why.{Why}
@@ -10,17 +10,17 @@ use Rattle.wd_machine.specs.declared.state.Waiter.{Waiter}
 use Rattle.wd_machine.specs.declared.turn.Out.{Out}
 use Rattle.wd_machine.specs.Meaning.{has_obj}
 
--- `content-type`
+-- the name of the field
 abbrev pub content_type : List ℕ
-content_type = 99 ∷ 111 ∷ 110 ∷ 116 ∷ 101 ∷ 110 ∷ 116 ∷ 45 ∷ 116 ∷ 121 ∷ 112 ∷ 101 ∷ []
+content_type = codes "content-type"
 
--- `text/plain;charset=UTF-8`
+-- its value for a text
 abbrev pub plain_text : List ℕ
-plain_text = 116 ∷ 101 ∷ 120 ∷ 116 ∷ 47 ∷ 112 ∷ 108 ∷ 97 ∷ 105 ∷ 110 ∷ 59 ∷ 99 ∷ 104 ∷ 97 ∷ 114 ∷ 115 ∷ 101 ∷ 116 ∷ 61 ∷ 85 ∷ 84 ∷ 70 ∷ 45 ∷ 56 ∷ []
+plain_text = codes "text/plain;charset=UTF-8"
 
--- `Internal Server Error`
+-- the text of status 500
 abbrev pub internal_server_error : List ℕ
-internal_server_error = 73 ∷ 110 ∷ 116 ∷ 101 ∷ 114 ∷ 110 ∷ 97 ∷ 108 ∷ 32 ∷ 83 ∷ 101 ∷ 114 ∷ 118 ∷ 101 ∷ 114 ∷ 32 ∷ 69 ∷ 114 ∷ 114 ∷ 111 ∷ 114 ∷ []
+internal_server_error = codes "Internal Server Error"
 
 -- the reply of a request that its script gave none (RFC 9110, section 15.6.1)
 abbrev pub failure : Why → Reply

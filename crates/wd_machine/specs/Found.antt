@@ -1,11 +1,10 @@
 -- What is found in the state: requests by number, Workers by name, and what a seat runs and has to free.
-use Rattle.std.specs.Prelude.{ℕ, ◌==◌, ◌≡◌, Bool, true, false, List, [], ◌∷◌, filter, Option, Some, None, option_map}
+use Rattle.std.specs.Prelude.{ℕ, ◌==◌, ◌≡◌, Bool, List, [], ◌∷◌, filter, Option, Some, None, option_map}
 use Rattle.std.specs.List.{find, position_from}
 use Rattle.wd_base.specs.declared.ids.Req.{Req}
 use Rattle.wd_graph.specs.Names.{same_name}
 use Rattle.wd_machine.specs.declared.find.Places.{Places}
 use Rattle.wd_machine.specs.declared.state.Due.{Due}
-use Rattle.wd_machine.specs.declared.state.Pending.{Pending}
 use Rattle.wd_machine.specs.declared.state.RequestState.{RequestState}
 use Rattle.wd_machine.specs.declared.state.Run.{Run}
 use Rattle.wd_machine.specs.declared.state.Waiter.{Waiter}
@@ -54,11 +53,6 @@ front (x ∷ rest) = Some x
 abbrev pub holder_of : {I : Type 0} → Option (WorkerState I) → Option Req
 holder_of None = None
 holder_of (Some w) = w.holder
-
--- the turn of a request that runs
-abbrev pub pending_of : Option RequestState → Option Pending
-pending_of None = None
-pending_of (Some r) = r.pending
 
 -- the seat is this one
 abbrev pub runs_on : ℕ → Run → Bool

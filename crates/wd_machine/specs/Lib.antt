@@ -8,3 +8,4 @@ pub mod Rules
 pub mod Steps
 pub mod First
 pub mod Runs
+pub mod Quiet

@@ -230,15 +230,20 @@ pub record IsDeadTurn {S : Type 0} (m : Meaning S) (s : S) (t : TurnIn) (gives :
   pub worker : m.worker gives.isolate ≡ m.worker s
   pub workers : m.workers gives.isolate ≡ m.workers s
 
--- the laws of isolates
+-- an isolate that a run may come to: the first one of a Worker, and what a turn leaves of such an isolate
+pub data IsReached {S : Type 0} (m : Meaning S) : S → Type 0 where
+  AtFirst : (def : WorkerDef) (names : List (List ℕ)) (s : S) → m.start def names ≡ Some s → IsReached m s
+  AfterTurn : (s : S) (t : TurnIn) → IsReached m s → IsReached m (m.turn s t).isolate
+
+-- the laws of isolates that a run may come to
 pub record IsLawful {S : Type 0} (m : Meaning S) : Type 0 where
   -- of the first isolate of a Worker
   pub first : (def : WorkerDef) (names : List (List ℕ)) (s : S) → m.start def names ≡ Some s → IsFirst m def names s
   -- of a turn, where the request's generation is not over
-  pub turns : (s : S) (t : TurnIn) → is_dead m s t ≡ false → IsTurn m s t (m.turn s t)
+  pub turns : (s : S) (t : TurnIn) → IsReached m s → is_dead m s t ≡ false → IsTurn m s t (m.turn s t)
   -- of a turn whose request's generation is over
-  pub dead : (s : S) (t : TurnIn) → is_dead m s t ≡ true → IsDeadTurn m s t (m.turn s t)
+  pub dead : (s : S) (t : TurnIn) → IsReached m s → is_dead m s t ≡ true → IsDeadTurn m s t (m.turn s t)
   -- each object keeps its link, and one that was made has none
-  pub links : (s : S) (t : TurnIn) → links_of (m.turn s t).objects ≡ links_of t.objects
+  pub links : (s : S) (t : TurnIn) → IsReached m s → links_of (m.turn s t).objects ≡ links_of t.objects
   -- a turn reads no link
-  pub reads_no_link : (s : S) (t : TurnIn) → m.turn s (record t { objects = map unlinked t.objects }) ≡ record (m.turn s t) { objects = map unlinked (m.turn s t).objects }
+  pub reads_no_link : (s : S) (t : TurnIn) → IsReached m s → m.turn s (record t { objects = map unlinked t.objects }) ≡ record (m.turn s t) { objects = map unlinked (m.turn s t).objects }

@@ -1,9 +1,8 @@
 -- Whole journals: the state after one, and which are legal.
-use Rattle.std.specs.Prelude.{◌≡◌, ℕ, Bool, true, false, ◌&&◌, List, [], ◌∷◌, map, flat_map, Option, Some, None, is_none, Result, Ok, Err}
+use Rattle.std.specs.Prelude.{◌≡◌, ℕ, Bool, true, ◌&&◌, List, [], ◌∷◌, Some, None, is_none, Result, Ok, Err}
 use Rattle.wd_base.specs.declared.config.Config.{Config}
 use Rattle.wd_machine.specs.declared.apply.Core.{Core}
 use Rattle.wd_machine.specs.declared.journal.Entry.{Entry}
-use Rattle.wd_machine.specs.declared.journal.Head.{Head}
 use Rattle.wd_machine.specs.declared.journal.Journal.{Journal}
 use Rattle.wd_machine.specs.declared.refusal.ApplyEnd.{ApplyEnd}
 use Rattle.wd_machine.specs.declared.refusal.ApplyEnd.TheVariants.{Refused as Refuses, NoMemory}

@@ -1,5 +1,5 @@
 -- Tests of equality, and the first field in which two `Out`s differ.
-use Rattle.std.specs.Prelude.{ℕ, ◌==◌, Bool, true, false, ◌&&◌, List, [], ◌∷◌, Option, Some, None}
+use Rattle.std.specs.Prelude.{◌==◌, Bool, true, false, ◌&&◌, List, Option, Some, None}
 use Rattle.std.specs.Coded.{Coded, coded_ℕ, coded_bool, coded_list, coded_option, coded×}
 use base.Stored.{Gv, gnil, gnum, gcons}
 use Rattle.wd_base.specs.contracts.http.Reply as reply

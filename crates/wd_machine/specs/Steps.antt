@@ -1,5 +1,5 @@
 -- What each entry changes.
-use Rattle.std.specs.Prelude.{◌≡◌, ℕ, ◌+◌, ◌-◌, ◌==◌, Bool, true, false, not, ◌||◌, if◌then◌else◌, List, [], ◌∷◌, ◌++◌, filter, map, Option, Some, None, is_some, unwrap_or}
+use Rattle.std.specs.Prelude.{◌≡◌, ℕ, ◌-◌, ◌==◌, Bool, false, not, ◌||◌, if◌then◌else◌, List, [], ◌∷◌, ◌++◌, filter, map, Option, Some, None, is_some, unwrap_or}
 use Rattle.wd_base.specs.declared.ids.Obj.{Obj}
 use Rattle.wd_base.specs.declared.ids.Req.{Req}
 use Rattle.wd_base.specs.declared.ids.Seat.{Seat}
@@ -21,7 +21,7 @@ use Rattle.wd_machine.specs.declared.state.WorkerState.{WorkerState}
 use Rattle.wd_machine.specs.declared.turn.Out.{Out}
 use Rattle.wd_machine.specs.declared.ends.Done.{Done}
 use Rattle.wd_machine.specs.Ends.{waits_in, ends, whole_reply, whole_out, left_live, freed_by}
-use Rattle.wd_machine.specs.Found.{is_request, is_worker, request_of, worker_of, worker_for, waiters_at}
+use Rattle.wd_machine.specs.Found.{is_request, is_worker, request_of, worker_of, waiters_at}
 use Rattle.wd_machine.specs.Keyed.{change}
 use Rattle.wd_machine.specs.Meaning.{Meaning, TurnIn, TurnGives, has_obj, spent}
 

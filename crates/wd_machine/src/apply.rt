@@ -7,6 +7,7 @@ use crate::isolate::Isolate;
 use crate::journal::{Entry, Head};
 use crate::machine::Machine;
 use crate::refusal::ApplyEnd;
+use std::alloc::Global;
 use wd_base::NoMemory;
 use wd_graph::World;
 
@@ -23,11 +24,16 @@ pub struct Core<I> {
 impl<I: Isolate + Drop> Core<I> {
     /// The machine before any entry. `isolates` has one isolate for each Worker of the world, in
     /// order: the first isolate of the Worker's definition and of the Workers among its targets.
-    pub fn new(world: World, head: Head, isolates: Vec<I>) -> Result<Core<I>, NoMemory>
+    pub fn new(
+        alloc: Global,
+        world: World,
+        head: Head,
+        isolates: Vec<I>,
+    ) -> Result<Core<I>, NoMemory>
         requires { AreFirst I.means world isolates.items }
         ensures { IfOk result (λ core. core ≡ record { world = world; head = head; machine = first_state I.means world; failed = false }) }
     {
-        let machine = Machine::new(&world, isolates)?;
+        let machine = Machine::new(alloc, &world, isolates)?;
         Ok(Core {
             world,
             head,

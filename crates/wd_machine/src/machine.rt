@@ -199,11 +199,10 @@ impl<I> Machine<I> {
 impl<I: Isolate + Drop> Machine<I> {
     /// The machine before any entry. `isolates` has the first isolate of each Worker of the world,
     /// in order.
-    pub fn new(world: &World, isolates: Vec<I>) -> Result<Machine<I>, NoMemory>
+    pub fn new(alloc: Global, world: &World, isolates: Vec<I>) -> Result<Machine<I>, NoMemory>
         requires { AreFirst I.means world.now isolates.items }
         ensures { IfOk result (λ machine. machine ≡ first_state I.means world.now) }
     {
-        let alloc = *isolates.allocator();
         let workers = first_workers(alloc, world.services().as_slice(), isolates)?;
         Ok(Machine {
             workers,

@@ -1,18 +1,15 @@
 -- A configuration of one Worker, and its first isolate.
-use Rattle.std.specs.Prelude.{◌≡◌, ℕ, List, [], ◌∷◌}
+use Rattle.std.specs.Prelude.{◌≡◌, ℕ, List, [], ◌∷◌, codes}
 use Rattle.wd_base.specs.declared.config.Config.{Config}
 use Rattle.wd_base.specs.declared.config.Form.TheVariants.{Module}
 use Rattle.wd_base.specs.declared.config.Kind.TheVariants.{Worker}
 use Rattle.wd_base.specs.declared.config.WorkerDef.{WorkerDef}
+use Rattle.wd_graph.specs.Links.{internet_name}
 use Rattle.wd_sample.specs.declared.isolate.Sample.{Sample}
 
--- `hello`
+-- the Worker's name
 abbrev pub hello : List ℕ
-hello = 104 ∷ 101 ∷ 108 ∷ 108 ∷ 111 ∷ []
-
--- `internet`
-abbrev pub internet_name : List ℕ
-internet_name = 105 ∷ 110 ∷ 116 ∷ 101 ∷ 114 ∷ 110 ∷ 101 ∷ 116 ∷ []
+hello = codes "hello"
 
 -- a Worker that fetches from the internet alone
 abbrev pub hello_worker : WorkerDef

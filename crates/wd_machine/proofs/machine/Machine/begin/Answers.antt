@@ -1,4 +1,4 @@
-use Rattle.std.proofs.Common.{sym, ap, ◌∙◌, refl}
+use Rattle.std.proofs.Common.{sym, ◌∙◌}
 use Rattle.std.proofs.lemmas.Bool.{false≢true}
 use Rattle.wd_machine.proofs.StepLemmas.{OnOk-map, begun_absent, begun_no_worker, begun_nobody, begun_done}
 use Rattle.wd_machine.proofs.machine.Machine.begin.Goals as goal

@@ -2,9 +2,8 @@ use Rattle.std.proofs.Common.{ap, ◌∙◌, length, arith}
 use Rattle.wd_machine.specs.declared.state.State.{State}
 use Rattle.wd_machine.specs.Ends.{waits_in}
 use Rattle.wd_machine.specs.Found.{request_of, worker_for, waiters_at}
-use Rattle.wd_machine.specs.Steps.{TurnsRow}
 use Rattle.wd_machine.proofs.KeyedLemmas.{place_within}
-use Rattle.wd_machine.proofs.StepLemmas.{turned_absent, turn_out_absent, turned_idle, turn_out_idle, LeavesTables, Turned, turned_alone, turned_given, turn_out_done}
+use Rattle.wd_machine.proofs.StepLemmas.{turned_absent, turn_out_absent, turned_idle, turn_out_idle, turned_alone, turned_given, turn_out_done}
 use Rattle.wd_machine.proofs.machine.Machine.turn.Goals as goal
 
 pub returns-in_default-clause-state : goal.returns-in_default-clause-state
