@@ -1,6 +1,7 @@
 -- What a port in memory tells, and what its maker tells of it.
-use Rattle.std.specs.Prelude.{◌≡◌, ℕ, ◌+◌, ◌-◌, ◌≤◌, ◌<◌, true, false, List, [], length, map, Some, slice_get, slice_set, slice_index_or}
-use Rattle.std.specs.Prelude.{unwrap_or}
+use Rattle.std.specs.Prelude.{◌≡◌, ℕ, ◌+◌, ◌-◌, ◌≤◌, ◌<◌, true, false, ◌&&◌, nat_eq, List, [], length, map, Option, Some, None, slice_get, slice_set, slice_index_or}
+use Rattle.std.specs.Prelude.{unwrap_or, option_map}
+use Rattle.std.specs.List.{position_from}
 use Rattle.std.proofs.Common.{ap}
 use Rattle.std.proofs.lemmas.List.{length-map}
 use Rattle.std.proofs.Math.ListN.{get_or-map}
@@ -13,7 +14,14 @@ use Rattle.wd_ports.specs.declared.told.Side.{Side}
 use Rattle.wd_ports.specs.declared.plan.PortPlan.{PortPlan}
 use Rattle.wd_ports.specs.declared.mem_files.MemFiles.{MemFiles}
 use Rattle.wd_ports.specs.declared.mem_port.Source.{Source}
-use Rattle.wd_ports.specs.declared.mem_port.Source.TheVariants.{Arrival}
+use Rattle.wd_ports.specs.declared.mem_port.Source.TheVariants as from
+use Rattle.wd_ports.specs.declared.plan.Peer.{Peer}
+use Rattle.wd_ports.specs.declared.schedule.Schedule.{Schedule}
+use Rattle.wd_ports.specs.declared.told.Got.{Got}
+use Rattle.wd_ports.specs.declared.told.Got.TheVariants.{Later}
+use Rattle.wd_base.specs.declared.ids.Ip4.{Ip4}
+use Rattle.wd_ports.specs.Schedule.{stream_at, arrival_got}
+use Rattle.wd_ports.specs.Streams.{reply_got}
 use Rattle.wd_ports.specs.declared.mem_port.MemLink.{MemLink}
 use Rattle.wd_ports.specs.declared.mem_port.MemPort.{MemPort}
 use Rattle.wd_ports.specs.MemFiles.{stored}
@@ -24,7 +32,7 @@ abbrev pub new_mem : LinkOrigin → Source → MemLink
 new_mem origin source = record { told = new_link origin; source = source; gone = false }
 
 abbrev pub blank_mem : MemLink
-blank_mem = record { told = blank; source = Arrival 0; gone = false }
+blank_mem = record { told = blank; source = from.Arrival 0; gone = false }
 
 -- the link at a place
 abbrev pub mem_link : List MemLink → ℕ → MemLink
@@ -37,6 +45,25 @@ changed i change links = slice_set links i (record (mem_link links i) { told = c
 -- the link there is gone
 abbrev pub lost : ℕ → List MemLink → List MemLink
 lost i links = slice_set links i (record (mem_link links i) { gone = true })
+
+-- the place of the first peer with that address and port
+abbrev pub peer_place : List Peer → Ip4 → ℕ → Option ℕ
+peer_place peers ip port = position_from (λ peer. nat_eq peer.ip.0 ip.0 && nat_eq peer.port port) 0 peers
+
+-- what a read gives of a peer's reply; no peer sends nothing
+abbrev pub peer_got : Schedule → Option Peer → ℕ → ℕ → Got
+peer_got s (Some peer) read room = reply_got s.clock.mark read room peer
+peer_got s None read room = Later
+
+-- what a read gives where the bytes of a link come from, behind those that were read
+abbrev pub source_got : Schedule → List Peer → Source → ℕ → ℕ → Got
+source_got s peers (from.Arrival arrival) read room = arrival_got s arrival read room
+source_got s peers (from.Peer at) read room = peer_got s (slice_get peers at) read room
+
+-- all bytes that come from there
+abbrev pub source_bytes : Schedule → List Peer → Source → List ℕ
+source_bytes s peers (from.Arrival arrival) = (stream_at s arrival).bytes
+source_bytes s peers (from.Peer at) = unwrap_or (option_map (λ peer. peer.reply) (slice_get peers at)) []
 
 abbrev pub mem_told : MemPort → Told
 mem_told p = record {

@@ -1,6 +1,7 @@
-ghost use Rattle.std.specs.Prelude.{◌≡◌, ◌≢◌, ℕ, ◌+◌, ◌-◌, ◌<◌, ◌≤◌, [], ◌∷◌, ◌++◌, List, length, take, map, min, Some, IfOk, OnOk, OnErr, IfSome, IsSome, ◌↔◌, IsTrue, IsErrOf};
+ghost use Rattle.std.specs.Prelude.{◌≡◌, ◌≢◌, ℕ, ◌+◌, ◌-◌, ◌<◌, ◌≤◌, [], ◌∷◌, ◌++◌, List, length, take, drop, map, min, Some, IfOk, OnOk, OnErr, IfSome, IsSome, ◌↔◌, IsTrue, IsErrOf};
 ghost use Rattle.wd_ports.specs.MemFiles.{stored};
-ghost use Rattle.wd_ports.specs.MemPort.{mem_told, mem_faults, mem_usable, mem_side, mem_gone, mem_link, changed, lost, new_mem, planned_told, planned_files, total_faults};
+ghost use Rattle.wd_ports.specs.Streams.{Copied};
+ghost use Rattle.wd_ports.specs.MemPort.{mem_told, mem_faults, mem_usable, mem_side, mem_gone, mem_link, peer_place, source_got, source_bytes, changed, lost, new_mem, planned_told, planned_files, total_faults};
 ghost use Rattle.wd_ports.specs.Told.{IsNewPort, hosts_at, link_of, with_sent, with_received, with_end, with_shut};
 ghost use Rattle.wd_ports.specs.Faults.{no_faults, part, with_part, ReadLink, WriteLink};
 ghost use Rattle.wd_ports.specs.Links.{IsCount, side_of, last_link};
@@ -81,7 +82,7 @@ impl MemPort {
         ensures files { IfOk result (λ port. port.files ≡ planned_files plan) }
         ensures none { IfOk result (λ port. mem_faults port ≡ no_faults) }
     {
-        let schedule = Schedule::new(alloc, plan.events)?;
+        let schedule = Schedule::new(alloc, &plan.events)?;
         let mut files = plan.files;
         files.faults = no_file_faults();
         Ok(MemPort {
@@ -274,7 +275,9 @@ fn find_host(alloc: Global, hosts: &Hosts, host: &[u8]) -> Result<Option<Ips>, N
 }
 
 /// The place of the first peer with that address and port.
-fn find_peer(peers: &Peers, ip: Ip4, port: u16) -> Option<usize> {
+fn find_peer(peers: &Peers, ip: Ip4, port: u16) -> Option<usize>
+    ensures { result ≡ peer_place peers.now ip port }
+{
     peers
         .as_slice()
         .iter()
@@ -303,14 +306,16 @@ fn count_write(faults: &mut Faults, origin: LinkOrigin)
 
 /// Reads on from where the bytes of a link come from, behind those that were read.
 fn read_source(
-    schedule: &mut Schedule,
+    schedule: &Schedule,
     peers: &Peers,
     source: Source,
     read: usize,
     buf: &mut [u8],
 ) -> Got
-    requires { 0 < length buf.old }
-    ensures { IsCount result (length buf.new) }
+    ensures got { result ≡ source_got schedule.now peers.now source read (length buf.old) }
+    ensures count { 0 < length buf.old → IsCount result (length buf.old) }
+    ensures copied { Copied result (drop read (source_bytes schedule.now peers.now source)) buf.new }
+    ensures room { length buf.new ≡ length buf.old }
 {
     match source {
         Source::Arrival(arrival) => schedule.read(arrival, read, buf),
@@ -404,7 +409,7 @@ impl Port for MemPort {
         }
         let source = self.links[at].source;
         let read = self.links[at].told.received.len();
-        let got = read_source(&mut self.schedule, &self.peers, source, read, buf);
+        let got = read_source(&self.schedule, &self.peers, source, read, buf);
         match got {
             Got::Bytes(count) => add_received(&mut self.links, at, &buf[..count])?,
             Got::Later => {}
