@@ -1,7 +1,7 @@
 -- What a port in memory tells, and what its maker tells of it.
-use Rattle.std.specs.Prelude.{◌≡◌, ℕ, ◌+◌, ◌-◌, ◌≤◌, ◌<◌, true, false, ◌&&◌, nat_eq, List, [], length, map, Option, Some, None, slice_get, slice_set, slice_index_or}
+use Rattle.std.specs.Prelude.{◌≡◌, ℕ, ◌+◌, ◌-◌, ◌≤◌, ◌<◌, Bool, true, false, ◌&&◌, ◌||◌, nat_eq, List, [], length, map, min, drop, Option, Some, None, slice_get, slice_set, slice_index_or}
 use Rattle.std.specs.Prelude.{unwrap_or, option_map}
-use Rattle.std.specs.List.{position_from}
+use Rattle.std.specs.List.{position_from, list_any}
 use Rattle.std.proofs.Common.{ap}
 use Rattle.std.proofs.lemmas.List.{length-map}
 use Rattle.std.proofs.Math.ListN.{get_or-map}
@@ -20,8 +20,9 @@ use Rattle.wd_ports.specs.declared.schedule.Schedule.{Schedule}
 use Rattle.wd_ports.specs.declared.told.Got.{Got}
 use Rattle.wd_ports.specs.declared.told.Got.TheVariants.{Later}
 use Rattle.wd_base.specs.declared.ids.Ip4.{Ip4}
-use Rattle.wd_ports.specs.Schedule.{stream_at, arrival_got}
+use Rattle.wd_ports.specs.Schedule.{stream_at, arrival_got, arrival_gone}
 use Rattle.wd_ports.specs.Streams.{reply_got}
+use Rattle.wd_ports.specs.Times.{next_mark}
 use Rattle.wd_ports.specs.declared.mem_port.MemLink.{MemLink}
 use Rattle.wd_ports.specs.declared.mem_port.MemPort.{MemPort}
 use Rattle.wd_ports.specs.MemFiles.{stored}
@@ -64,6 +65,47 @@ source_got s peers (from.Peer at) read room = peer_got s (slice_get peers at) re
 abbrev pub source_bytes : Schedule → List Peer → Source → List ℕ
 source_bytes s peers (from.Arrival arrival) = (stream_at s arrival).bytes
 source_bytes s peers (from.Peer at) = unwrap_or (option_map (λ peer. peer.reply) (slice_get peers at)) []
+
+-- what a port does not tell: its schedule and peers, the numbers of its calls that fail, how many calls
+-- there were, and where the bytes of its links come from
+pub record Unseen : Type 0 where
+  pub schedule : Schedule
+  pub peers : List Peer
+  pub fail : List ℕ
+  pub calls : ℕ
+  pub sources : List Source
+
+abbrev pub unseen : MemPort → Unseen
+unseen p = record { schedule = p.schedule; peers = p.peers; fail = p.fail; calls = p.calls; sources = map (λ m. m.source) p.links.items }
+
+-- a call was counted
+abbrev pub called : Unseen → Unseen
+called u = record u { calls = min (u.calls + 1) 18446744073709551615 }
+
+-- the mark was raised
+abbrev pub marked : Unseen → Unseen
+marked u = record u { schedule = record u.schedule { clock = next_mark u.schedule.clock } }
+
+-- the next call fails
+abbrev pub fails_next : MemPort → Bool
+fails_next p = list_any (λ number. nat_eq number p.calls) p.fail
+
+-- what a read of link n gives where the call does not fail
+abbrev pub link_got : MemPort → LinkNo → ℕ → Got
+link_got p n room = source_got p.schedule p.peers (mem_link p.links.items (n.0 - 1)).source (length (mem_link p.links.items (n.0 - 1)).told.received) room
+
+-- the link is gone by the plan
+abbrev pub source_gone : Schedule → Source → Bool
+source_gone s (from.Arrival arrival) = arrival_gone s arrival
+source_gone s (from.Peer at) = false
+
+-- link n was found gone, or is gone by the plan
+abbrev pub link_gone : MemPort → LinkNo → Bool
+link_gone p n = (mem_link p.links.items (n.0 - 1)).gone || source_gone p.schedule (mem_link p.links.items (n.0 - 1)).source
+
+-- the bytes that come on link n behind those that were read
+abbrev pub unread : MemPort → LinkNo → List ℕ
+unread p n = drop (length (mem_link p.links.items (n.0 - 1)).told.received) (source_bytes p.schedule p.peers (mem_link p.links.items (n.0 - 1)).source)
 
 abbrev pub mem_told : MemPort → Told
 mem_told p = record {

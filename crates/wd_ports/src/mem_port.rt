@@ -1,10 +1,11 @@
 ghost use Rattle.std.specs.Prelude.{◌≡◌, ◌≢◌, ℕ, ◌+◌, ◌-◌, ◌<◌, ◌≤◌, [], ◌∷◌, ◌++◌, List, length, take, drop, map, min, Some, IfOk, OnOk, OnErr, IfSome, IsSome, ◌↔◌, IsTrue, IsErrOf};
 ghost use Rattle.wd_ports.specs.MemFiles.{stored};
+ghost use Rattle.wd_base.specs.declared.ids.LinkNo.{LinkNo};
 ghost use Rattle.wd_ports.specs.Streams.{Copied};
-ghost use Rattle.wd_ports.specs.MemPort.{mem_told, mem_faults, mem_usable, mem_side, mem_gone, mem_link, peer_place, source_got, source_bytes, changed, lost, new_mem, planned_told, planned_files, total_faults};
-ghost use Rattle.wd_ports.specs.Told.{IsNewPort, hosts_at, link_of, with_sent, with_received, with_end, with_shut};
-ghost use Rattle.wd_ports.specs.Faults.{no_faults, part, with_part, ReadLink, WriteLink};
-ghost use Rattle.wd_ports.specs.Links.{IsCount, side_of, last_link};
+ghost use Rattle.wd_ports.specs.MemPort.{mem_told, mem_faults, mem_usable, mem_side, mem_gone, mem_link, peer_place, source_got, source_bytes, unseen, called, marked, fails_next, link_got, link_gone, unread, changed, lost, new_mem, planned_told, planned_files, total_faults};
+ghost use Rattle.wd_ports.specs.Told.{IsNewPort, after_read, after_write, hosts_at, link_of, with_sent, with_received, with_end, with_shut};
+ghost use Rattle.wd_ports.specs.Faults.{no_faults, Blames, part, with_part, ReadLink, WriteLink};
+ghost use Rattle.wd_ports.specs.Links.{IsCount, Keeps, Stays, AddsNone, side_of, last_link};
 
 use crate::mem_files::{MemFiles, fails_now};
 use crate::plan::{Hosts, Peers, PortPlan};
@@ -400,7 +401,21 @@ impl Port for MemPort {
         }
     }
 
-    fn read_link(&mut self, link: LinkNo, buf: &mut [u8]) -> Result<Got, Failed> {
+    fn read_link(&mut self, link: LinkNo, buf: &mut [u8]) -> Result<Got, Failed>
+        requires usable { mem_usable self.old link }
+        requires room { 0 < length buf.old }
+        ensures got { IfOk result (λ got. got ≡ link_got self.old link (length buf.old)) }
+        ensures copied { IfOk result (λ got. Copied got (unread self.old link) buf.new) }
+        ensures fails { IsErrOf result Failed.Fault ↔ IsTrue (fails_next self.old) }
+        ensures unseen { unseen self.new ≡ called (unseen self.old) }
+        ensures count { IfOk result (λ got. IsCount got (length buf.new)) }
+        ensures tells { mem_told self.new ≡ after_read link result buf.new (mem_told self.old) }
+        ensures blames { Blames (ReadLink (mem_side self.old link)) (mem_faults self.old) (mem_faults self.new) result }
+        ensures lost { IsErrOf result Failed.Fault → mem_gone self.new link }
+        ensures keeps { Keeps (mem_usable self.old) (mem_side self.old) (mem_usable self.new) (mem_side self.new) }
+        ensures stays { Stays (mem_gone self.old) (mem_gone self.new) }
+        ensures memory { IsErrOf result Failed.NoMemory → AddsNone (mem_usable self.old) (mem_side self.old) (mem_gone self.old) (mem_usable self.new) (mem_side self.new) (mem_gone self.new) }
+    {
         let at = link.0 as usize - 1;
         if fails_now(&self.fail, &mut self.calls) {
             count_read(&mut self.faults, self.links[at].told.origin);
@@ -418,7 +433,21 @@ impl Port for MemPort {
         Ok(got)
     }
 
-    fn write_link(&mut self, link: LinkNo, bytes: &[u8]) -> Result<usize, Failed> {
+    fn write_link(&mut self, link: LinkNo, bytes: &[u8]) -> Result<usize, Failed>
+        requires usable { mem_usable self.old link }
+        requires some { 0 < length bytes.now }
+        ensures whole { IfOk result (λ k. k ≡ length bytes.now) }
+        ensures fails { IsErrOf result Failed.Fault ↔ IsTrue (fails_next self.old) }
+        ensures marks { OnOk result (unseen self.new ≡ marked (called (unseen self.old))) }
+        ensures unseen { OnErr result (unseen self.new ≡ called (unseen self.old)) }
+        ensures count { IfOk result (λ k. (0 < k) × (k ≤ length bytes.now)) }
+        ensures tells { mem_told self.new ≡ after_write link result bytes.now (mem_told self.old) }
+        ensures blames { Blames (WriteLink (mem_side self.old link)) (mem_faults self.old) (mem_faults self.new) result }
+        ensures lost { IsErrOf result Failed.Fault → mem_gone self.new link }
+        ensures keeps { Keeps (mem_usable self.old) (mem_side self.old) (mem_usable self.new) (mem_side self.new) }
+        ensures stays { Stays (mem_gone self.old) (mem_gone self.new) }
+        ensures memory { IsErrOf result Failed.NoMemory → AddsNone (mem_usable self.old) (mem_side self.old) (mem_gone self.old) (mem_usable self.new) (mem_side self.new) (mem_gone self.new) }
+    {
         let at = link.0 as usize - 1;
         if fails_now(&self.fail, &mut self.calls) {
             count_write(&mut self.faults, self.links[at].told.origin);
@@ -430,7 +459,18 @@ impl Port for MemPort {
         Ok(bytes.len())
     }
 
-    fn gone(&mut self, link: LinkNo) -> bool {
+    fn gone(&mut self, link: LinkNo) -> bool
+        requires { mem_usable self.old link }
+        ensures value { result ≡ link_gone self.old link }
+        ensures others { (n : LinkNo) → 0 < n.0 → n.0 ≢ link.0 → (mem_gone self.new n ↔ mem_gone self.old n) }
+        ensures unseen { unseen self.new ≡ unseen self.old }
+        ensures found { IsTrue result → mem_gone self.new link }
+        ensures answer { IsSome (mem_told self.old).links → (IsTrue result ↔ mem_gone self.new link) }
+        ensures tells { mem_told self.new ≡ mem_told self.old }
+        ensures blames { mem_faults self.new ≡ mem_faults self.old }
+        ensures keeps { Keeps (mem_usable self.old) (mem_side self.old) (mem_usable self.new) (mem_side self.new) }
+        ensures stays { Stays (mem_gone self.old) (mem_gone self.new) }
+    {
         let at = link.0 as usize - 1;
         if let Source::Arrival(arrival) = self.links[at].source {
             if self.schedule.is_gone(arrival) {
