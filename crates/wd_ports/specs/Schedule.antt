@@ -1,13 +1,15 @@
 -- What the schedule of a port in memory tells: which arrival is next, and what has come on a link.
-use Rattle.std.specs.Prelude.{◌≡◌, ℕ, ◌+◌, Bool, false, List, drop, take_while, option_map, Option, Some, None, slice_get, unwrap_or, nat_lt}
-use Rattle.std.specs.List.{position_from}
+use Rattle.std.specs.Prelude.{◌≡◌, ℕ, ◌+◌, ◌<◌, Bool, false, List, length, map, drop, filter_map, take_while, option_map, Option, Some, None, slice_get, unwrap_or, nat_lt}
+use Rattle.std.specs.List.{position_from, enumerate_from}
 use Rattle.wd_base.specs.declared.ids.SockNo.{SockNo}
 use Rattle.wd_ports.specs.declared.told.Got.{Got}
 use Rattle.wd_ports.specs.declared.told.Got.TheVariants.{Later}
+use Rattle.wd_ports.specs.declared.plan.PortEvent.{PortEvent}
+use Rattle.wd_ports.specs.declared.plan.PortEvent.TheVariants as happens
 use Rattle.wd_ports.specs.declared.schedule.Arrival.{Arrival}
 use Rattle.wd_ports.specs.declared.schedule.Schedule.{Schedule}
 use Rattle.wd_ports.specs.Times.{happened}
-use Rattle.wd_ports.specs.Streams.{Comes, no_stream, next_got, has_happened}
+use Rattle.wd_ports.specs.Streams.{Comes, no_stream, next_got, has_happened, link_stream}
 
 -- the arrivals that have happened and were neither taken nor passed over
 abbrev pub waiting : Schedule → List Arrival
@@ -32,3 +34,22 @@ arrival_got s arrival read room = next_got (happened s.clock) read room (stream_
 -- the link of an arrival is gone
 abbrev pub arrival_gone : Schedule → ℕ → Bool
 arrival_gone s arrival = has_happened (happened s.clock) (stream_at s arrival).gone
+
+-- the arrival that an event is, with its number
+abbrev pub arrival_of : ℕ × (ℕ × PortEvent) → Option Arrival
+arrival_of (number, (mark, happens.Accept socket)) = Some (record { event = number; socket = socket })
+arrival_of (number, (mark, happens.Bytes link bytes)) = None
+arrival_of (number, (mark, happens.End link)) = None
+arrival_of (number, (mark, happens.Gone link)) = None
+
+-- the arrivals among the events of a plan
+abbrev pub arrivals_of : List (ℕ × PortEvent) → List Arrival
+arrivals_of events = filter_map arrival_of (enumerate_from 0 events)
+
+-- the schedule is that of a plan's events, at mark 0
+pub record IsPlanned (events : List (ℕ × PortEvent)) (s : Schedule) : Type 0 where
+  pub times : s.clock ≡ record { due = map (λ event. event.0) events; mark = 0 }
+  pub arrivals : s.arrivals ≡ arrivals_of events
+  pub next : s.next ≡ 0
+  pub count : length s.streams.items ≡ length s.arrivals
+  pub streams : (k : ℕ) → k < length s.arrivals → stream_at s k ≡ link_stream (k + 1) events

@@ -1,6 +1,10 @@
 -- What comes on a link of a plan, and what a read of it gives.
-use Rattle.std.specs.Prelude.{◌≡◌, ℕ, ◌-◌, Bool, false, List, [], ◌∷◌, ◌++◌, length, take, min, Option, Some, None, unwrap_or, option_map, find, is_some, nat_lt, nat_le, if◌then◌else◌}
+use Rattle.std.specs.Prelude.{◌≡◌, ℕ, ◌-◌, Bool, false, List, [], ◌∷◌, ◌++◌, length, take, min, Option, Some, None, unwrap_or, option_map, find, fold, is_some, nat_eq, nat_lt, nat_le, if◌then◌else◌}
+use Rattle.std.specs.List.{enumerate_from}
+use Rattle.wd_base.specs.declared.ids.LinkNo.{LinkNo}
 use Rattle.wd_ports.specs.declared.plan.Peer.{Peer}
+use Rattle.wd_ports.specs.declared.plan.PortEvent.{PortEvent}
+use Rattle.wd_ports.specs.declared.plan.PortEvent.TheVariants as happens
 use Rattle.wd_ports.specs.declared.stream.Piece.{Piece}
 use Rattle.wd_ports.specs.declared.told.Got.{Got}
 use Rattle.wd_ports.specs.declared.told.Got.TheVariants.{Bytes, Later, End}
@@ -28,6 +32,32 @@ with_end event s = record s { end = Some (unwrap_or s.end event) }
 -- the link is gone by an event, or by an earlier one
 abbrev pub with_gone : ℕ → Comes → Comes
 with_gone event s = record s { gone = Some (unwrap_or s.gone event) }
+
+-- the link on which an event comes
+abbrev pub event_link : PortEvent → Option LinkNo
+event_link (happens.Accept socket) = None
+event_link (happens.Bytes link bytes) = Some link
+event_link (happens.End link) = Some link
+event_link (happens.Gone link) = Some link
+
+-- one more event of a link, with its number
+abbrev pub with_event : ℕ → PortEvent → Comes → Comes
+with_event number (happens.Accept socket) s = s
+with_event number (happens.Bytes link bytes) s = with_bytes number bytes s
+with_event number (happens.End link) s = with_end number s
+with_event number (happens.Gone link) s = with_gone number s
+
+-- an event comes on link n
+abbrev pub is_on : ℕ → PortEvent → Bool
+is_on n event = unwrap_or (option_map (λ link. nat_eq link.0 n) (event_link event)) false
+
+-- one more event of the plan, with its number and its mark
+abbrev pub link_event : ℕ → Comes → ℕ × (ℕ × PortEvent) → Comes
+link_event n s event = if is_on n event.1.1 then with_event event.0 event.1.1 s else s
+
+-- what comes on link n of the plan by its events, which are numbered from 0
+abbrev pub link_stream : ℕ → List (ℕ × PortEvent) → Comes
+link_stream n events = fold (link_event n) no_stream (enumerate_from 0 events)
 
 -- an event is there, and is one of the first so many
 abbrev pub has_happened : ℕ → Option ℕ → Bool

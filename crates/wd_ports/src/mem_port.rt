@@ -1,6 +1,7 @@
 ghost use Rattle.std.specs.Prelude.{◌≡◌, ◌≢◌, ℕ, ◌+◌, ◌-◌, ◌<◌, ◌≤◌, [], ◌∷◌, ◌++◌, List, length, take, drop, map, min, Some, IfOk, OnOk, OnErr, IfSome, IsSome, ◌↔◌, IsTrue, IsErrOf};
 ghost use Rattle.wd_ports.specs.MemFiles.{stored};
 ghost use Rattle.wd_base.specs.declared.ids.LinkNo.{LinkNo};
+ghost use Rattle.wd_ports.specs.Schedule.{IsPlanned};
 ghost use Rattle.wd_ports.specs.Streams.{Copied};
 ghost use Rattle.wd_ports.specs.MemPort.{mem_told, mem_faults, mem_usable, mem_side, mem_gone, mem_link, peer_place, source_got, source_bytes, unseen, called, marked, fails_next, link_got, link_gone, unread, changed, lost, new_mem, planned_told, planned_files, total_faults};
 ghost use Rattle.wd_ports.specs.Told.{IsNewPort, after_read, after_write, hosts_at, link_of, with_sent, with_received, with_end, with_shut};
@@ -82,6 +83,8 @@ impl MemPort {
         ensures told { IfOk result (λ port. mem_told port ≡ planned_told plan) }
         ensures files { IfOk result (λ port. port.files ≡ planned_files plan) }
         ensures none { IfOk result (λ port. mem_faults port ≡ no_faults) }
+        ensures planned { IfOk result (λ port. IsPlanned plan.events port.schedule) }
+        ensures rest { IfOk result (λ port. unseen port ≡ record { schedule = port.schedule; peers = plan.peers; fail = plan.fail; calls = 0; sources = [] }) }
     {
         let schedule = Schedule::new(alloc, &plan.events)?;
         let mut files = plan.files;

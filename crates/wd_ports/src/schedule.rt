@@ -1,8 +1,8 @@
-ghost use Rattle.std.specs.Prelude.{◌≡◌, ℕ, ◌+◌, ◌<◌, ◌≤◌, length, min, drop, Some, IfSome, IfOk, OnOk, OnErr, IsTrue, ◌↔◌, option_map};
+ghost use Rattle.std.specs.Prelude.{◌≡◌, ℕ, ◌+◌, ◌<◌, ◌≤◌, length, map, min, drop, slice_index_or, All, Some, IfSome, IfOk, OnOk, OnErr, IsTrue, ◌↔◌, option_map};
 ghost use Rattle.wd_ports.specs.Links.{IsCount};
 ghost use Rattle.wd_ports.specs.Times.{happened, next_mark};
-ghost use Rattle.wd_ports.specs.Streams.{Copied, reply_got};
-ghost use Rattle.wd_ports.specs.Schedule.{next_place, socket_at, stream_at, arrival_got, arrival_gone};
+ghost use Rattle.wd_ports.specs.Streams.{Copied, reply_got, no_stream, event_link, link_event, link_stream};
+ghost use Rattle.wd_ports.specs.Schedule.{IsPlanned, arrivals_of, next_place, socket_at, stream_at, arrival_got, arrival_gone};
 
 use crate::clock::Clock;
 use crate::plan::{Peer, PortEvent, Timed};
@@ -30,23 +30,27 @@ pub struct Schedule {
 }
 
 /// The marks of events.
-fn marks_of(alloc: Global, events: &Timed) -> Result<Numbers, NoMemory> {
+fn marks_of(alloc: Global, events: &[(u64, PortEvent)]) -> Result<Numbers, NoMemory>
+    ensures { IfOk result (λ due. due ≡ map (λ event. event.0) events.now) }
+{
     let mut due = Seq::new(alloc);
-    for (mark, _) in events.as_slice() {
-        due.push(*mark)?;
+    for event in events {
+        due.push(event.0)?;
     }
     Ok(due)
 }
 
 /// The arrivals among events.
-fn arrivals_of(alloc: Global, events: &Timed) -> Result<Seq<Arrival>, NoMemory> {
-    let events = events.as_slice();
+fn arrivals_of(alloc: Global, events: &[(u64, PortEvent)]) -> Result<Seq<Arrival>, NoMemory>
+    ensures { IfOk result (λ arrivals. arrivals ≡ arrivals_of events.now) }
+{
     let mut arrivals = Seq::new(alloc);
-    for event in 0..events.len() {
-        if let PortEvent::Accept(socket) = &events[event].1 {
+    for number in 0..events.len() {
+        if let PortEvent::Accept(socket) = &events[number].1 {
+            let socket = *socket;
             arrivals.push(Arrival {
-                event,
-                socket: *socket,
+                event: number,
+                socket,
             })?;
         }
     }
@@ -54,7 +58,10 @@ fn arrivals_of(alloc: Global, events: &Timed) -> Result<Seq<Arrival>, NoMemory> 
 }
 
 /// So many links on which nothing comes.
-fn empty_streams(alloc: Global, count: usize) -> Result<Vec<Stream>, NoMemory> {
+fn empty_streams(alloc: Global, count: usize) -> Result<Vec<Stream>, NoMemory>
+    ensures count { IfOk result (λ streams. length streams.items ≡ count) }
+    ensures each { IfOk result (λ streams. All (λ stream. stream ≡ no_stream) streams.items) }
+{
     let mut streams = Vec::new(alloc);
     for _ in 0..count {
         if streams.push(Stream::new(alloc)).is_err() {
@@ -64,47 +71,60 @@ fn empty_streams(alloc: Global, count: usize) -> Result<Vec<Stream>, NoMemory> {
     Ok(streams)
 }
 
-/// What comes on a link of the plan.
-fn stream_of(streams: &mut Vec<Stream>, link: LinkNo) -> Option<&mut Stream> {
-    if link.0 == 0 {
-        return None;
+/// The link on which an event comes.
+fn event_link(event: &PortEvent) -> Option<LinkNo>
+    ensures { result ≡ event_link event.now }
+{
+    match event {
+        PortEvent::Accept(_) => None,
+        PortEvent::Bytes(link, _) | PortEvent::End(link) | PortEvent::Gone(link) => Some(*link),
     }
-    streams.get_mut(link.0 as usize - 1)
 }
 
-/// Adds an event behind the others. One of a link that does not come is nothing.
-fn add_event(streams: &mut Vec<Stream>, number: usize, event: &PortEvent) -> Result<(), NoMemory> {
-    match event {
-        PortEvent::Accept(_) => {}
-        PortEvent::Bytes(link, bytes) => {
-            if let Some(stream) = stream_of(streams, *link) {
-                stream.add(number, bytes.as_slice())?;
-            }
-        }
-        PortEvent::End(link) => {
-            if let Some(stream) = stream_of(streams, *link) {
-                stream.set_end(number);
-            }
-        }
-        PortEvent::Gone(link) => {
-            if let Some(stream) = stream_of(streams, *link) {
-                stream.set_gone(number);
-            }
-        }
+/// Adds an event behind the others, with its number. One of a link that does not come is nothing.
+fn add_event(
+    streams: &mut Vec<Stream>,
+    number: usize,
+    event: &(u64, PortEvent),
+) -> Result<(), NoMemory>
+    ensures count { OnOk result (length streams.new.items ≡ length streams.old.items) }
+    ensures each { OnOk result ((k : ℕ) → k < length streams.old.items → slice_index_or streams.new.items k no_stream ≡ link_event (k + 1) (slice_index_or streams.old.items k no_stream) (number, event.now)) }
+{
+    let Some(link) = event_link(&event.1) else {
+        return Ok(());
+    };
+    let place = link.0 as usize;
+    if place == 0 || streams.len() < place {
+        return Ok(());
     }
-    Ok(())
+    streams[place - 1].add(number, &event.1)
+}
+
+/// What comes on the first so many links of a plan by its events.
+fn streams_of(
+    alloc: Global,
+    count: usize,
+    events: &[(u64, PortEvent)],
+) -> Result<Vec<Stream>, NoMemory>
+    ensures count { IfOk result (λ streams. length streams.items ≡ count) }
+    ensures each { IfOk result (λ streams. (k : ℕ) → k < count → slice_index_or streams.items k no_stream ≡ link_stream (k + 1) events.now) }
+{
+    let mut streams = empty_streams(alloc, count)?;
+    for number in 0..events.len() {
+        add_event(&mut streams, number, &events[number])?;
+    }
+    Ok(streams)
 }
 
 impl Schedule {
     /// The schedule of events, at mark 0.
-    pub fn new(alloc: Global, events: &Timed) -> Result<Schedule, NoMemory> {
+    pub fn new(alloc: Global, events: &Timed) -> Result<Schedule, NoMemory>
+        ensures { IfOk result (λ schedule. IsPlanned events.now schedule) }
+    {
+        let events = events.as_slice();
         let due = marks_of(alloc, events)?;
         let arrivals = arrivals_of(alloc, events)?;
-        let mut streams = empty_streams(alloc, arrivals.len())?;
-        let events = events.as_slice();
-        for number in 0..events.len() {
-            add_event(&mut streams, number, &events[number].1)?;
-        }
+        let streams = streams_of(alloc, arrivals.len(), events)?;
         Ok(Schedule {
             clock: Clock::new(due),
             arrivals,

@@ -1,7 +1,8 @@
 ghost use Rattle.std.specs.Prelude.{◌≡◌, ℕ, ◌+◌, ◌<◌, ◌≤◌, length, min, take, drop, unwrap_or, option_map, option_copied, nat_le, OnOk, IfSome};
 ghost use Rattle.wd_ports.specs.Links.{IsCount};
-ghost use Rattle.wd_ports.specs.Streams.{no_stream, with_bytes, with_end, with_gone, has_happened, next_piece, next_got, Copied};
+ghost use Rattle.wd_ports.specs.Streams.{no_stream, with_bytes, with_event, has_happened, next_piece, next_got, Copied};
 
+use crate::plan::PortEvent;
 use crate::told::Got;
 use std::alloc::Global;
 use std::marker::Model;
@@ -81,8 +82,8 @@ impl Stream {
         }
     }
 
-    /// Bytes come by an event, which follows those of the others.
-    pub fn add(&mut self, event: usize, bytes: &[u8]) -> Result<(), NoMemory>
+    /// Bytes come by an event, which follows those of the others. Behind the end none come.
+    fn add_bytes(&mut self, event: usize, bytes: &[u8]) -> Result<(), NoMemory>
         ensures { OnOk result (self.new ≡ with_bytes event bytes.now self.old) }
     {
         if self.end.is_some() {
@@ -93,18 +94,17 @@ impl Stream {
         self.pieces.push(Piece { event, end })
     }
 
-    /// The link ends by an event.
-    pub fn set_end(&mut self, event: usize)
-        ensures { self.new ≡ with_end event self.old }
+    /// Adds an event of the link, which follows the others, with its number.
+    pub fn add(&mut self, number: usize, event: &PortEvent) -> Result<(), NoMemory>
+        ensures { OnOk result (self.new ≡ with_event number event.now self.old) }
     {
-        self.end = Some(first_event(self.end, event));
-    }
-
-    /// The link is gone by an event.
-    pub fn set_gone(&mut self, event: usize)
-        ensures { self.new ≡ with_gone event self.old }
-    {
-        self.gone = Some(first_event(self.gone, event));
+        match event {
+            PortEvent::Accept(_) => {}
+            PortEvent::Bytes(_, bytes) => self.add_bytes(number, bytes.as_slice())?,
+            PortEvent::End(_) => self.end = Some(first_event(self.end, number)),
+            PortEvent::Gone(_) => self.gone = Some(first_event(self.gone, number)),
+        }
+        Ok(())
     }
 
     /// The first piece that reaches past the bytes that were read. It is found by halving.
