@@ -1,5 +1,5 @@
 -- What a port in memory tells, and what its maker tells of it.
-use Rattle.std.specs.Prelude.{◌≡◌, ℕ, ◌+◌, ◌-◌, ◌≤◌, ◌<◌, Bool, true, false, ◌&&◌, ◌||◌, nat_eq, List, [], length, map, min, drop, Option, Some, None, slice_get, slice_set, slice_index_or}
+use Rattle.std.specs.Prelude.{◌≡◌, ℕ, ◌+◌, ◌-◌, ◌≤◌, ◌<◌, ◌++◌, ◌∷◌, is_none, nat_le, nat_lt, option_and_then, if◌then◌else◌, Bool, true, false, ◌&&◌, ◌||◌, nat_eq, List, [], length, map, min, drop, Option, Some, None, slice_get, slice_set, slice_index_or}
 use Rattle.std.specs.Prelude.{unwrap_or, option_map}
 use Rattle.std.specs.List.{position_from, list_any}
 use Rattle.std.proofs.Common.{ap}
@@ -18,16 +18,18 @@ use Rattle.wd_ports.specs.declared.mem_port.Source.TheVariants as from
 use Rattle.wd_ports.specs.declared.plan.Peer.{Peer}
 use Rattle.wd_ports.specs.declared.schedule.Schedule.{Schedule}
 use Rattle.wd_ports.specs.declared.told.Got.{Got}
-use Rattle.wd_ports.specs.declared.told.Got.TheVariants.{Later}
+use Rattle.wd_ports.specs.declared.told.Got.TheVariants as got
+use Rattle.wd_ports.specs.declared.told.Accepted.{Accepted}
+use Rattle.wd_ports.specs.declared.told.Accepted.TheVariants.{Link, Later, Closed}
 use Rattle.wd_base.specs.declared.ids.Ip4.{Ip4}
-use Rattle.wd_ports.specs.Schedule.{stream_at, arrival_got, arrival_gone}
+use Rattle.wd_ports.specs.Schedule.{stream_at, arrival_got, arrival_gone, next_place, socket_at, is_over}
 use Rattle.wd_ports.specs.Streams.{reply_got}
 use Rattle.wd_ports.specs.Times.{next_mark}
 use Rattle.wd_ports.specs.declared.mem_port.MemLink.{MemLink}
 use Rattle.wd_ports.specs.declared.mem_port.MemPort.{MemPort}
 use Rattle.wd_ports.specs.MemFiles.{stored}
-use Rattle.wd_ports.specs.Links.{side_of, IsOrigin}
-use Rattle.wd_ports.specs.Told.{Told, Has, blank, new_link}
+use Rattle.wd_ports.specs.Links.{side_of, IsOrigin, last_link}
+use Rattle.wd_ports.specs.Told.{Told, Has, blank, new_link, hosts_at}
 
 abbrev pub new_mem : LinkOrigin → Source → MemLink
 new_mem origin source = record { told = new_link origin; source = source; gone = false }
@@ -54,7 +56,7 @@ peer_place peers ip port = position_from (λ peer. nat_eq peer.ip.0 ip.0 && nat_
 -- what a read gives of a peer's reply; no peer sends nothing
 abbrev pub peer_got : Schedule → Option Peer → ℕ → ℕ → Got
 peer_got s (Some peer) read room = reply_got s.clock.mark read room peer
-peer_got s None read room = Later
+peer_got s None read room = got.Later
 
 -- what a read gives where the bytes of a link come from, behind those that were read
 abbrev pub source_got : Schedule → List Peer → Source → ℕ → ℕ → Got
@@ -89,6 +91,45 @@ marked u = record u { schedule = record u.schedule { clock = next_mark u.schedul
 -- the next call fails
 abbrev pub fails_next : MemPort → Bool
 fails_next p = list_any (λ number. nat_eq number p.calls) p.fail
+
+-- a call of `listen` fails
+abbrev pub listen_fails : MemPort → Bool
+listen_fails p = fails_next p || nat_lt 4294967295 (length p.sockets)
+
+-- the addresses of a host, where it has any
+abbrev pub host_ips : List (List ℕ × List Ip4) → List ℕ → Option (List Ip4)
+host_ips hosts host = option_and_then (λ ips. if nat_lt 0 (length ips) then Some ips else None) (hosts_at hosts host)
+
+-- a call of `lookup` fails
+abbrev pub lookup_fails : MemPort → List ℕ → Bool
+lookup_fails p host = fails_next p || is_none (host_ips p.hosts host)
+
+-- no further link is given
+abbrev pub is_shut : MemPort → Bool
+is_shut p = p.closed || nat_le last_link (length p.links.items)
+
+-- the place of the arrival that `accept` takes
+abbrev pub accept_place : MemPort → Option ℕ
+accept_place p = if is_shut p then None else next_place (length p.sockets) p.schedule
+
+-- what `accept` answers, where it takes the arrival at a place, or none
+abbrev pub answer_at : MemPort → Option ℕ → Accepted
+answer_at p (Some place) = Link (unwrap_or (socket_at p.schedule place) (record { 0 = 0 })) (record { 0 = length p.links.items + 1 })
+answer_at p None = if is_shut p || is_over p.schedule then Closed else Later
+
+-- the arrival at a place was taken, and its link is the last
+abbrev pub taken : Option ℕ → Unseen → Unseen
+taken (Some place) u = record u { schedule = record u.schedule { next = min (place + 1) 18446744073709551615 }; sources = u.sources ++ from.Arrival place ∷ [] }
+taken None u = u
+
+-- a call of `connect` fails
+abbrev pub connect_fails : MemPort → Ip4 → ℕ → Bool
+connect_fails p ip port = fails_next p || nat_le last_link (length p.links.items) || is_none (peer_place p.peers ip port)
+
+-- a link to the peer at a place is the last
+abbrev pub with_peer : Option ℕ → Unseen → Unseen
+with_peer (Some place) u = record u { sources = u.sources ++ from.Peer place ∷ [] }
+with_peer None u = u
 
 -- what a read of link n gives where the call does not fail
 abbrev pub link_got : MemPort → LinkNo → ℕ → Got

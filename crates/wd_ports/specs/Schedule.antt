@@ -1,5 +1,5 @@
 -- What the schedule of a port in memory tells: which arrival is next, and what has come on a link.
-use Rattle.std.specs.Prelude.{◌≡◌, ℕ, ◌+◌, ◌<◌, Bool, false, List, length, map, drop, filter_map, take_while, option_map, Option, Some, None, slice_get, unwrap_or, nat_lt}
+use Rattle.std.specs.Prelude.{◌≡◌, ℕ, ◌+◌, ◌<◌, Bool, false, List, length, map, drop, filter_map, take_while, option_map, Option, Some, None, slice_get, unwrap_or, nat_lt, nat_le}
 use Rattle.std.specs.List.{position_from, enumerate_from}
 use Rattle.wd_base.specs.declared.ids.SockNo.{SockNo}
 use Rattle.wd_ports.specs.declared.told.Got.{Got}
@@ -22,6 +22,10 @@ next_place sockets s = position_from (λ arrival. nat_lt arrival.socket.0 socket
 -- the socket of the arrival at a place
 abbrev pub socket_at : Schedule → ℕ → Option SockNo
 socket_at s place = option_map (λ arrival. arrival.socket) (slice_get s.arrivals place)
+
+-- each event has happened
+abbrev pub is_over : Schedule → Bool
+is_over s = nat_le (length s.clock.due) (happened s.clock)
 
 -- what comes on the link of an arrival
 abbrev pub stream_at : Schedule → ℕ → Comes

@@ -1,4 +1,4 @@
-ghost use Rattle.std.specs.Prelude.{◌≡◌, ℕ, ◌≤◌, length, IsTrue, ◌↔◌};
+ghost use Rattle.std.specs.Prelude.{◌≡◌, ℕ, ◌≤◌, length, nat_le};
 ghost use Rattle.wd_ports.specs.Times.{happened, next_mark};
 
 use std::marker::Model;
@@ -73,7 +73,7 @@ impl Clock {
 
     /// Each event has happened.
     pub fn is_over(&self) -> bool
-        ensures { IsTrue result ↔ (length self.now.due ≤ happened self.now) }
+        ensures { result ≡ nat_le (length self.now.due) (happened self.now) }
     {
         self.due.len() <= self.count
     }

@@ -3,16 +3,16 @@ ghost use Rattle.wd_ports.specs.MemFiles.{stored};
 ghost use Rattle.wd_base.specs.declared.ids.LinkNo.{LinkNo};
 ghost use Rattle.wd_ports.specs.Schedule.{IsPlanned};
 ghost use Rattle.wd_ports.specs.Streams.{Copied};
-ghost use Rattle.wd_ports.specs.MemPort.{mem_told, mem_faults, mem_usable, mem_side, mem_gone, mem_link, peer_place, source_got, source_bytes, unseen, called, marked, fails_next, link_got, link_gone, unread, changed, lost, new_mem, planned_told, planned_files, total_faults};
-ghost use Rattle.wd_ports.specs.Told.{IsNewPort, after_read, after_write, hosts_at, link_of, with_sent, with_received, with_end, with_shut};
-ghost use Rattle.wd_ports.specs.Faults.{no_faults, Blames, part, with_part, ReadLink, WriteLink};
-ghost use Rattle.wd_ports.specs.Links.{IsCount, Keeps, Stays, AddsNone, side_of, last_link};
+ghost use Rattle.wd_ports.specs.MemPort.{mem_told, mem_faults, mem_usable, mem_side, mem_gone, mem_link, peer_place, source_got, source_bytes, unseen, called, marked, fails_next, link_got, link_gone, unread, listen_fails, host_ips, lookup_fails, answer_at, accept_place, taken, connect_fails, with_peer, changed, lost, new_mem, planned_told, planned_files, total_faults};
+ghost use Rattle.wd_ports.specs.Told.{IsNewPort, after_listen, after_accept, after_connect, after_read, after_write, shut_on, hosts_at, link_of, with_sent, with_received, with_end, with_shut};
+ghost use Rattle.wd_ports.specs.Faults.{no_faults, Blames, Listen, Lookup, Connect, part, with_part, ReadLink, WriteLink};
+ghost use Rattle.wd_ports.specs.Links.{IsCount, IsFresh, IsNext, UsableLink, Keeps, KeepsOthers, Stays, AddsNone, side_of, last_link};
 
 use crate::mem_files::{MemFiles, fails_now};
 use crate::plan::{Hosts, Peers, PortPlan};
 use crate::port::{Files, Port};
 use crate::schedule::Schedule;
-use crate::told::{Accepted, Failed, Faults, FileFaults, Got, LinkOrigin, LinkState, Names};
+use crate::told::{Accepted, Failed, Faults, FileFaults, Got, LinkOrigin, LinkState, Names, Side};
 use std::alloc::Global;
 use wd_base::{Addr, Bytes, Ip4, Ips, LinkNo, NoMemory, Numbers, Seq, SockNo, TryClone};
 
@@ -264,7 +264,9 @@ fn add_link(
 
 /// The addresses of the first such host, if it has any.
 fn find_host(alloc: Global, hosts: &Hosts, host: &[u8]) -> Result<Option<Ips>, NoMemory>
-    ensures { IfOk result (λ found. IfSome found (λ ips. (0 < length ips) × (hosts_at hosts.now host.now ≡ Some ips))) }
+    ensures exact { IfOk result (λ found. found ≡ host_ips hosts.now host.now) }
+    ensures memory { OnErr result (IsSome (host_ips hosts.now host.now)) }
+    ensures some { IfOk result (λ found. IfSome found (λ ips. (0 < length ips) × (hosts_at hosts.now host.now ≡ Some ips))) }
 {
     for item in hosts.as_slice() {
         if item.0.as_slice() == host {
@@ -331,7 +333,16 @@ fn read_source(
 }
 
 impl Port for MemPort {
-    fn listen(&mut self, alloc: Global, address: &Addr) -> Result<SockNo, Failed> {
+    fn listen(&mut self, alloc: Global, address: &Addr) -> Result<SockNo, Failed>
+        ensures fails { IsErrOf result Failed.Fault ↔ IsTrue (listen_fails self.old) }
+        ensures unseen { unseen self.new ≡ called (unseen self.old) }
+        ensures number { IfOk result (λ s. s.0 ≡ length (mem_told self.old).sockets) }
+        ensures tells { mem_told self.new ≡ after_listen address.now result (mem_told self.old) }
+        ensures blames { Blames Listen (mem_faults self.old) (mem_faults self.new) result }
+        ensures keeps { Keeps (mem_usable self.old) (mem_side self.old) (mem_usable self.new) (mem_side self.new) }
+        ensures stays { Stays (mem_gone self.old) (mem_gone self.new) }
+        ensures memory { IsErrOf result Failed.NoMemory → (AddsNone (mem_usable self.old) (mem_side self.old) (mem_gone self.old) (mem_usable self.new) (mem_side self.new) (mem_gone self.new)) }
+    {
         if fails_now(&self.fail, &mut self.calls) {
             self.faults.listen = self.faults.listen.saturating_add(1);
             return Err(Failed::Fault);
@@ -345,7 +356,18 @@ impl Port for MemPort {
         Ok(SockNo(number))
     }
 
-    fn accept(&mut self, alloc: Global) -> Result<Accepted, NoMemory> {
+    fn accept(&mut self, alloc: Global) -> Result<Accepted, NoMemory>
+        ensures answer { IfOk result (λ a. a ≡ answer_at self.old (accept_place self.old)) }
+        ensures taken { OnOk result (unseen self.new ≡ taken (accept_place self.old) (unseen self.old)) }
+        ensures unseen { OnErr result (unseen self.new ≡ unseen self.old) }
+        ensures fresh { IfOk result (λ a. IsFresh a (mem_told self.old)) }
+        ensures link { IfOk result (λ a. UsableLink a (mem_usable self.new) (mem_side self.new)) }
+        ensures tells { mem_told self.new ≡ after_accept result (mem_told self.old) }
+        ensures blames { mem_faults self.new ≡ mem_faults self.old }
+        ensures keeps { Keeps (mem_usable self.old) (mem_side self.old) (mem_usable self.new) (mem_side self.new) }
+        ensures stays { Stays (mem_gone self.old) (mem_gone self.new) }
+        ensures memory { OnErr result (AddsNone (mem_usable self.old) (mem_side self.old) (mem_gone self.old) (mem_usable self.new) (mem_side self.new) (mem_gone self.new)) }
+    {
         let number = self.links.len();
         if self.closed || number >= u32::MAX as usize {
             self.closed = true;
@@ -370,7 +392,17 @@ impl Port for MemPort {
         }
     }
 
-    fn lookup(&mut self, alloc: Global, host: &str) -> Result<Ips, Failed> {
+    fn lookup(&mut self, alloc: Global, host: &str) -> Result<Ips, Failed>
+        ensures fails { IsErrOf result Failed.Fault ↔ IsTrue (lookup_fails self.old host.now) }
+        ensures unseen { unseen self.new ≡ called (unseen self.old) }
+        ensures some { IfOk result (λ ips. 0 < length ips) }
+        ensures answer { IfOk result (λ ips. IfSome (mem_told self.old).hosts (λ hosts. hosts_at hosts host.now ≡ Some ips)) }
+        ensures tells { mem_told self.new ≡ mem_told self.old }
+        ensures blames { Blames Lookup (mem_faults self.old) (mem_faults self.new) result }
+        ensures keeps { Keeps (mem_usable self.old) (mem_side self.old) (mem_usable self.new) (mem_side self.new) }
+        ensures stays { Stays (mem_gone self.old) (mem_gone self.new) }
+        ensures memory { IsErrOf result Failed.NoMemory → (AddsNone (mem_usable self.old) (mem_side self.old) (mem_gone self.old) (mem_usable self.new) (mem_side self.new) (mem_gone self.new)) }
+    {
         if fails_now(&self.fail, &mut self.calls) {
             self.faults.lookup = self.faults.lookup.saturating_add(1);
             return Err(Failed::Fault);
@@ -384,7 +416,18 @@ impl Port for MemPort {
         }
     }
 
-    fn connect(&mut self, alloc: Global, ip: Ip4, port: u16) -> Result<LinkNo, Failed> {
+    fn connect(&mut self, alloc: Global, ip: Ip4, port: u16) -> Result<LinkNo, Failed>
+        ensures fails { IsErrOf result Failed.Fault ↔ IsTrue (connect_fails self.old ip port) }
+        ensures marks { OnOk result (unseen self.new ≡ marked (with_peer (peer_place self.old.peers ip port) (called (unseen self.old)))) }
+        ensures unseen { OnErr result (unseen self.new ≡ called (unseen self.old)) }
+        ensures fresh { IfOk result (λ n. IsNext n (mem_told self.old)) }
+        ensures link { IfOk result (λ n. mem_usable self.new n × (mem_side self.new n ≡ Side.Connected)) }
+        ensures tells { mem_told self.new ≡ after_connect ip port result (mem_told self.old) }
+        ensures blames { Blames Connect (mem_faults self.old) (mem_faults self.new) result }
+        ensures keeps { Keeps (mem_usable self.old) (mem_side self.old) (mem_usable self.new) (mem_side self.new) }
+        ensures stays { Stays (mem_gone self.old) (mem_gone self.new) }
+        ensures memory { IsErrOf result Failed.NoMemory → (AddsNone (mem_usable self.old) (mem_side self.old) (mem_gone self.old) (mem_usable self.new) (mem_side self.new) (mem_gone self.new)) }
+    {
         let number = self.links.len();
         if fails_now(&self.fail, &mut self.calls) || number >= u32::MAX as usize {
             self.faults.connect = self.faults.connect.saturating_add(1);
@@ -484,11 +527,25 @@ impl Port for MemPort {
         self.links[at].gone
     }
 
-    fn shut(&mut self, link: LinkNo) {
+    fn shut(&mut self, link: LinkNo)
+        requires { mem_usable self.old link }
+        ensures unseen { unseen self.new ≡ unseen self.old }
+        ensures over { mem_usable self.new link → ⊥ }
+        ensures tells { mem_told self.new ≡ shut_on link (mem_told self.old) }
+        ensures blames { mem_faults self.new ≡ mem_faults self.old }
+        ensures keeps { KeepsOthers link (mem_usable self.old) (mem_side self.old) (mem_usable self.new) (mem_side self.new) }
+        ensures stays { (n : LinkNo) → mem_gone self.old n ↔ mem_gone self.new n }
+    {
         add_shut(&mut self.links, link.0 as usize - 1);
     }
 
-    fn idle(&mut self) {}
+    fn idle(&mut self)
+        ensures same { self.new ≡ self.old }
+        ensures tells { mem_told self.new ≡ mem_told self.old }
+        ensures blames { mem_faults self.new ≡ mem_faults self.old }
+        ensures keeps { Keeps (mem_usable self.old) (mem_side self.old) (mem_usable self.new) (mem_side self.new) }
+        ensures stays { Stays (mem_gone self.old) (mem_gone self.new) }
+    {}
 
     ghost use Rattle.wd_ports.specs.MemPort.{usable_has, origin_is};
 

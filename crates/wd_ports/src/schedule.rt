@@ -2,7 +2,7 @@ ghost use Rattle.std.specs.Prelude.{◌≡◌, ℕ, ◌+◌, ◌<◌, ◌≤◌,
 ghost use Rattle.wd_ports.specs.Links.{IsCount};
 ghost use Rattle.wd_ports.specs.Times.{happened, next_mark};
 ghost use Rattle.wd_ports.specs.Streams.{Copied, reply_got, no_stream, event_link, link_event, link_stream};
-ghost use Rattle.wd_ports.specs.Schedule.{IsPlanned, arrivals_of, next_place, socket_at, stream_at, arrival_got, arrival_gone};
+ghost use Rattle.wd_ports.specs.Schedule.{IsPlanned, arrivals_of, is_over, next_place, socket_at, stream_at, arrival_got, arrival_gone};
 
 use crate::clock::Clock;
 use crate::plan::{Peer, PortEvent, Timed};
@@ -170,7 +170,7 @@ impl Schedule {
 
     /// Each event has happened.
     pub fn is_over(&self) -> bool
-        ensures { IsTrue result ↔ (length self.now.clock.due ≤ happened self.now.clock) }
+        ensures { result ≡ is_over self.now }
     {
         self.clock.is_over()
     }
