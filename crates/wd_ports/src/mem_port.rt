@@ -4,8 +4,8 @@ ghost use Rattle.wd_base.specs.declared.ids.LinkNo.{LinkNo};
 ghost use Rattle.wd_ports.specs.Schedule.{IsPlanned};
 ghost use Rattle.wd_ports.specs.Streams.{Copied};
 ghost use Rattle.wd_ports.specs.MemPort.{mem_told, mem_faults, mem_usable, mem_side, mem_gone, mem_link, peer_place, source_got, source_bytes, unseen, called, marked, fails_next, link_got, link_gone, unread, listen_fails, host_ips, lookup_fails, answer_at, accept_place, taken, connect_fails, with_peer, changed, lost, new_mem, planned_told, planned_files, total_faults};
-ghost use Rattle.wd_ports.specs.Told.{IsNewPort, after_listen, after_accept, after_connect, after_read, after_write, shut_on, hosts_at, link_of, with_sent, with_received, with_end, with_shut};
-ghost use Rattle.wd_ports.specs.Faults.{no_faults, Blames, Listen, Lookup, Connect, part, with_part, ReadLink, WriteLink};
+ghost use Rattle.wd_ports.specs.Told.{IsNewPort, file_at, names_at, WritesFile, after_listen, after_accept, after_connect, after_read, after_write, shut_on, hosts_at, link_of, with_sent, with_received, with_end, with_shut};
+ghost use Rattle.wd_ports.specs.Faults.{no_faults, Blames, ReadFile, ListFolder, WriteFile, Listen, Lookup, Connect, part, with_part, ReadLink, WriteLink};
 ghost use Rattle.wd_ports.specs.Links.{IsCount, IsFresh, IsNext, UsableLink, Keeps, KeepsOthers, Stays, AddsNone, side_of, last_link};
 
 use crate::mem_files::{MemFiles, fails_now};
@@ -178,15 +178,39 @@ impl Files for MemPort {
 
     ghost gone = { mem_gone };
 
-    fn read(&mut self, alloc: Global, path: &str) -> Result<Option<Bytes>, Failed> {
+    fn read(&mut self, alloc: Global, path: &str) -> Result<Option<Bytes>, Failed>
+        ensures rest { self.new ≡ record self.old { files = self.new.files } }
+        ensures bytes { IfOk result (λ found. IfSome (mem_told self.old).files (λ s. found ≡ file_at s path.now)) }
+        ensures room { IfOk result (λ found. IfSome found (λ bytes. length bytes ≤ 536870912)) }
+        ensures tells { mem_told self.new ≡ mem_told self.old }
+        ensures blames { Blames ReadFile (mem_faults self.old) (mem_faults self.new) result }
+        ensures keeps { Keeps (mem_usable self.old) (mem_side self.old) (mem_usable self.new) (mem_side self.new) }
+        ensures stays { Stays (mem_gone self.old) (mem_gone self.new) }
+        ensures memory { IsErrOf result Failed.NoMemory → AddsNone (mem_usable self.old) (mem_side self.old) (mem_gone self.old) (mem_usable self.new) (mem_side self.new) (mem_gone self.new) }
+    {
         self.files.read(alloc, path)
     }
 
-    fn list(&mut self, alloc: Global, path: &str) -> Result<Option<Names>, Failed> {
+    fn list(&mut self, alloc: Global, path: &str) -> Result<Option<Names>, Failed>
+        ensures rest { self.new ≡ record self.old { files = self.new.files } }
+        ensures names { IfOk result (λ found. IfSome (mem_told self.old).files (λ s. found ≡ names_at s path.now)) }
+        ensures tells { mem_told self.new ≡ mem_told self.old }
+        ensures blames { Blames ListFolder (mem_faults self.old) (mem_faults self.new) result }
+        ensures keeps { Keeps (mem_usable self.old) (mem_side self.old) (mem_usable self.new) (mem_side self.new) }
+        ensures stays { Stays (mem_gone self.old) (mem_gone self.new) }
+        ensures memory { IsErrOf result Failed.NoMemory → AddsNone (mem_usable self.old) (mem_side self.old) (mem_gone self.old) (mem_usable self.new) (mem_side self.new) (mem_gone self.new) }
+    {
         self.files.list(alloc, path)
     }
 
-    fn write(&mut self, alloc: Global, path: &str, bytes: &[u8]) -> Result<(), Failed> {
+    fn write(&mut self, alloc: Global, path: &str, bytes: &[u8]) -> Result<(), Failed>
+        ensures rest { self.new ≡ record self.old { files = self.new.files } }
+        ensures tells { WritesFile path.now bytes.now result (mem_told self.old) (mem_told self.new) }
+        ensures blames { Blames WriteFile (mem_faults self.old) (mem_faults self.new) result }
+        ensures keeps { Keeps (mem_usable self.old) (mem_side self.old) (mem_usable self.new) (mem_side self.new) }
+        ensures stays { Stays (mem_gone self.old) (mem_gone self.new) }
+        ensures memory { IsErrOf result Failed.NoMemory → AddsNone (mem_usable self.old) (mem_side self.old) (mem_gone self.old) (mem_usable self.new) (mem_side self.new) (mem_gone self.new) }
+    {
         self.files.write(alloc, path, bytes)
     }
 }
