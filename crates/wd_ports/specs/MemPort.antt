@@ -1,7 +1,7 @@
 -- What a port in memory tells, and what its maker tells of it.
 use Rattle.std.specs.Prelude.{◌≡◌, ℕ, ◌+◌, ◌-◌, ◌≤◌, ◌<◌, ◌++◌, ◌∷◌, is_none, nat_le, nat_lt, option_and_then, if◌then◌else◌, Bool, true, false, ◌&&◌, ◌||◌, nat_eq, List, [], length, map, min, drop, Option, Some, None, slice_get, slice_set, slice_index_or}
 use Rattle.std.specs.Prelude.{unwrap_or, option_map}
-use Rattle.std.specs.List.{position_from, list_any}
+use Rattle.std.specs.List.{position_from}
 use Rattle.std.proofs.Common.{ap}
 use Rattle.std.proofs.lemmas.List.{length-map}
 use Rattle.std.proofs.Math.ListN.{get_or-map}
@@ -27,7 +27,7 @@ use Rattle.wd_ports.specs.Streams.{reply_got}
 use Rattle.wd_ports.specs.Times.{next_mark}
 use Rattle.wd_ports.specs.declared.mem_port.MemLink.{MemLink}
 use Rattle.wd_ports.specs.declared.mem_port.MemPort.{MemPort}
-use Rattle.wd_ports.specs.MemFiles.{stored}
+use Rattle.wd_ports.specs.MemFiles.{stored, is_failing, next_call}
 use Rattle.wd_ports.specs.Links.{side_of, IsOrigin, last_link}
 use Rattle.wd_ports.specs.Told.{Told, Has, blank, new_link, hosts_at}
 
@@ -80,9 +80,13 @@ pub record Unseen : Type 0 where
 abbrev pub unseen : MemPort → Unseen
 unseen p = record { schedule = p.schedule; peers = p.peers; fail = p.fail; calls = p.calls; sources = map (λ m. m.source) p.links.items }
 
+-- the same of a port that was just made of a plan
+abbrev pub new_unseen : PortPlan → Schedule → Unseen
+new_unseen plan schedule = record { schedule = schedule; peers = plan.peers; fail = plan.fail; calls = 0; sources = [] }
+
 -- a call was counted
 abbrev pub called : Unseen → Unseen
-called u = record u { calls = min (u.calls + 1) 18446744073709551615 }
+called u = record u { calls = next_call u.calls }
 
 -- the mark was raised
 abbrev pub marked : Unseen → Unseen
@@ -90,7 +94,7 @@ marked u = record u { schedule = record u.schedule { clock = next_mark u.schedul
 
 -- the next call fails
 abbrev pub fails_next : MemPort → Bool
-fails_next p = list_any (λ number. nat_eq number p.calls) p.fail
+fails_next p = is_failing p.fail p.calls
 
 -- a call of `listen` fails
 abbrev pub listen_fails : MemPort → Bool

@@ -3,7 +3,7 @@ ghost use Rattle.wd_ports.specs.MemFiles.{stored};
 ghost use Rattle.wd_base.specs.declared.ids.LinkNo.{LinkNo};
 ghost use Rattle.wd_ports.specs.Schedule.{IsPlanned};
 ghost use Rattle.wd_ports.specs.Streams.{Copied};
-ghost use Rattle.wd_ports.specs.MemPort.{mem_told, mem_faults, mem_usable, mem_side, mem_gone, mem_link, peer_place, source_got, source_bytes, unseen, called, marked, fails_next, link_got, link_gone, unread, listen_fails, host_ips, lookup_fails, answer_at, accept_place, taken, connect_fails, with_peer, changed, lost, new_mem, planned_told, planned_files, total_faults};
+ghost use Rattle.wd_ports.specs.MemPort.{mem_told, mem_faults, mem_usable, mem_side, mem_gone, mem_link, peer_place, source_got, source_bytes, unseen, new_unseen, called, marked, fails_next, link_got, link_gone, unread, listen_fails, host_ips, lookup_fails, answer_at, accept_place, taken, connect_fails, with_peer, changed, lost, new_mem, planned_told, planned_files, total_faults};
 ghost use Rattle.wd_ports.specs.Told.{IsNewPort, file_at, names_at, WritesFile, after_listen, after_accept, after_connect, after_read, after_write, shut_on, hosts_at, link_of, with_sent, with_received, with_end, with_shut};
 ghost use Rattle.wd_ports.specs.Faults.{no_faults, Blames, ReadFile, ListFolder, WriteFile, Listen, Lookup, Connect, part, with_part, ReadLink, WriteLink};
 ghost use Rattle.wd_ports.specs.Links.{IsCount, IsFresh, IsNext, UsableLink, Keeps, KeepsOthers, Stays, AddsNone, side_of, last_link};
@@ -84,7 +84,7 @@ impl MemPort {
         ensures files { IfOk result (λ port. port.files ≡ planned_files plan) }
         ensures none { IfOk result (λ port. mem_faults port ≡ no_faults) }
         ensures planned { IfOk result (λ port. IsPlanned plan.events port.schedule) }
-        ensures rest { IfOk result (λ port. unseen port ≡ record { schedule = port.schedule; peers = plan.peers; fail = plan.fail; calls = 0; sources = [] }) }
+        ensures rest { IfOk result (λ port. unseen port ≡ new_unseen plan port.schedule) }
     {
         let schedule = Schedule::new(alloc, &plan.events)?;
         let mut files = plan.files;
