@@ -1,5 +1,5 @@
 -- The next arrival of a schedule.
-use Rattle.std.proofs.Common.{◌≡◌, ℕ, zero, suc, ◌+◌, ◌<◌, ◌≤◌, List, [], ◌∷◌, length, get_or, take, drop, refl, ap, sym, ◌∙◌, cond, true, false, Bool, Some, None, Option, arith}
+use Rattle.std.proofs.Common.{◌≡◌, ℕ, zero, suc, ◌+◌, ◌<◌, List, [], ◌∷◌, length, get_or, take, drop, refl, ap, sym, ◌∙◌, cond, true, false, Bool, Some, arith}
 use Rattle.std.specs.Prelude.{take_while, slice_get}
 use Rattle.std.specs.List.{position_from, prefix_len}
 use Rattle.wd_ports.proofs.Children.{drop_next}

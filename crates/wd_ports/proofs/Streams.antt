@@ -1,6 +1,6 @@
 -- The next piece of a link.
-use Rattle.std.proofs.Common.{◌≡◌, ℕ, zero, suc, ◌<◌, ◌≤◌, List, [], ◌∷◌, length, get_or, refl, true, false, Bool, Some, None, Option, arith}
-use Rattle.std.specs.Prelude.{nat_lt, nat_le, slice_get, find, All, IfSome}
+use Rattle.std.proofs.Common.{◌≡◌, ℕ, zero, suc, ◌<◌, ◌≤◌, List, [], ◌∷◌, length, refl, true, false, arith}
+use Rattle.std.specs.Prelude.{nat_le, slice_get, All, IfSome}
 use Rattle.std.specs.List.Sorted.{IsPartitionPoint}
 use Rattle.wd_ports.specs.declared.stream.Piece.{Piece}
 use Rattle.wd_ports.specs.Streams.{next_piece}

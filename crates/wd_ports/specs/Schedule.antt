@@ -1,9 +1,8 @@
 -- What the schedule of a port in memory tells: which arrival is next, and what has come on a link.
-use Rattle.std.specs.Prelude.{◌≡◌, ℕ, ◌+◌, ◌<◌, Bool, false, List, length, map, drop, filter_map, take_while, option_map, Option, Some, None, slice_get, unwrap_or, nat_lt, nat_le}
+use Rattle.std.specs.Prelude.{◌≡◌, ℕ, ◌+◌, ◌<◌, Bool, List, length, map, drop, filter_map, take_while, option_map, Option, Some, None, slice_get, unwrap_or, nat_lt, nat_le}
 use Rattle.std.specs.List.{position_from, enumerate_from}
 use Rattle.wd_base.specs.declared.ids.SockNo.{SockNo}
 use Rattle.wd_ports.specs.declared.told.Got.{Got}
-use Rattle.wd_ports.specs.declared.told.Got.TheVariants.{Later}
 use Rattle.wd_ports.specs.declared.plan.PortEvent.{PortEvent}
 use Rattle.wd_ports.specs.declared.plan.PortEvent.TheVariants as happens
 use Rattle.wd_ports.specs.declared.schedule.Arrival.{Arrival}

@@ -1,4 +1,4 @@
-use Rattle.std.proofs.Common.{arith, ◌≤◌}
+use Rattle.std.proofs.Common.{arith}
 use Rattle.wd_ports.proofs.Times.{front_later}
 use Rattle.wd_ports.proofs.clock.Clock.tick.Goals as goal
 

@@ -1,6 +1,5 @@
-use Rattle.std.proofs.Common.{◌≡◌, ◌∙◌, sym, ap, arith, rules, nat_lt, Some, true}
+use Rattle.std.proofs.Common.{◌∙◌, sym, ap, arith, nat_lt}
 use Rattle.std.specs.Prelude.{slice_get, option_map}
-use Rattle.wd_ports.specs.Schedule.{next_place, socket_at}
 use Rattle.wd_ports.proofs.Arrivals.{place_found, place_passed, item_there}
 use Rattle.wd_ports.proofs.schedule.Schedule.next_arrival.Goals as goal
 
