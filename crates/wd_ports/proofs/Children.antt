@@ -25,7 +25,7 @@ unfolding names_in
 names_step kind folder path paths names = append_assoc names _ _ ∙ ap (λ ns. names ++ ns) (sym (ap (map (λ p. record { text = part_of folder p; kind = kind })) (filter-append (is_child folder) (path ∷ []) paths) ∙ map-append _ (filter (is_child folder) (path ∷ [])) (filter (is_child folder) paths)))
 
 -- a list from a place on: the item there, and the rest
-drop_next : {A : Type 0} (xs : List A) (i : ℕ) (d : A) → i < length xs → drop i xs ≡ get_or xs i d ∷ drop (i + 1) xs
+pub drop_next : {A : Type 0} (xs : List A) (i : ℕ) (d : A) → i < length xs → drop i xs ≡ get_or xs i d ∷ drop (i + 1) xs
 drop_next xs i d h = rw add-one (drop-cons xs i d h)
 
 -- a loop over folders has added the names of those before a place

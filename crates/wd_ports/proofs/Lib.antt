@@ -1,6 +1,9 @@
+pub mod Arrivals
 pub mod Children
 pub mod Lookups
 pub mod MemLinks
 pub mod OneLink
 pub mod Parts
 pub mod Printing
+pub mod Streams
+pub mod Times

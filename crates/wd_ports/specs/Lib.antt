@@ -2,6 +2,9 @@ pub mod Faults
 pub mod Links
 pub mod MemFiles
 pub mod MemPort
+pub mod Schedule
 pub mod Send
 pub mod Sink
+pub mod Streams
+pub mod Times
 pub mod Told

@@ -1,6 +1,11 @@
 -- What files in memory tell.
 use Rattle.std.specs.Prelude.{◌≡◌, ◌≢◌, ℕ, ◌<◌, true, false, List, [], length, Option, Some, None, slice_index_or}
+use Rattle.std.specs.Prelude.{◌+◌, ◌||◌, Bool, min, nat_eq, nat_lt, unwrap_or}
+use Rattle.std.specs.List.{list_any}
 use Rattle.std.specs.Str.{bytes_eq}
+use Rattle.wd_base.specs.declared.ids.LinkNo.{LinkNo}
+use Rattle.wd_ports.specs.declared.told.Side.{Side}
+use Rattle.wd_ports.specs.declared.told.Side.TheVariants.{Accepted}
 use Rattle.wd_ports.specs.declared.told.Faults.{Faults}
 use Rattle.wd_ports.specs.declared.mem_files.MemFiles.{MemFiles}
 use Rattle.wd_ports.specs.Told.{Told, Stored, file_in}
@@ -28,3 +33,22 @@ IsPlace files path None = (j : ℕ) → j < length files → bytes_eq (path_at f
 pub record IsSet (path bytes : List ℕ) (old new : List (List ℕ × List ℕ)) : Type 0 where
   pub here : file_in new path ≡ Some bytes
   pub others : (q : List ℕ) → q ≢ path → file_in new q ≡ file_in old q
+
+-- a call whose number stands in a list of calls that fail
+abbrev pub is_failing : List ℕ → ℕ → Bool
+is_failing fail calls = list_any (λ number. nat_eq number calls) fail
+
+-- the number of the next call, at most the greatest u64
+abbrev pub next_call : ℕ → ℕ
+next_call calls = min (calls + 1) 18446744073709551615
+
+-- a read fails: it is one of the calls that fail, or the file is too long
+abbrev pub read_fails : MemFiles → List ℕ → Bool
+read_fails f path = is_failing f.fail f.calls || nat_lt 536870912 (length (unwrap_or (file_in f.files path) []))
+
+-- no file store has links
+abbrev pub no_link : LinkNo → Type 0
+no_link n = ⊥
+
+abbrev pub no_side : LinkNo → Side
+no_side n = Accepted

@@ -1,6 +1,7 @@
 -- What a port in memory tells, and what its maker tells of it.
-use Rattle.std.specs.Prelude.{◌≡◌, ℕ, ◌+◌, ◌-◌, ◌≤◌, ◌<◌, true, false, List, [], length, map, Some, slice_get, slice_set, slice_index_or}
-use Rattle.std.specs.Prelude.{unwrap_or}
+use Rattle.std.specs.Prelude.{◌≡◌, ℕ, ◌+◌, ◌-◌, ◌≤◌, ◌<◌, ◌++◌, ◌∷◌, is_none, nat_le, nat_lt, option_and_then, if◌then◌else◌, Bool, true, false, ◌&&◌, ◌||◌, nat_eq, List, [], length, map, min, drop, Option, Some, None, slice_get, slice_set, slice_index_or}
+use Rattle.std.specs.Prelude.{unwrap_or, option_map}
+use Rattle.std.specs.List.{position_from}
 use Rattle.std.proofs.Common.{ap}
 use Rattle.std.proofs.lemmas.List.{length-map}
 use Rattle.std.proofs.Math.ListN.{get_or-map}
@@ -13,18 +14,28 @@ use Rattle.wd_ports.specs.declared.told.Side.{Side}
 use Rattle.wd_ports.specs.declared.plan.PortPlan.{PortPlan}
 use Rattle.wd_ports.specs.declared.mem_files.MemFiles.{MemFiles}
 use Rattle.wd_ports.specs.declared.mem_port.Source.{Source}
-use Rattle.wd_ports.specs.declared.mem_port.Source.TheVariants.{Arrival}
+use Rattle.wd_ports.specs.declared.mem_port.Source.TheVariants as from
+use Rattle.wd_ports.specs.declared.plan.Peer.{Peer}
+use Rattle.wd_ports.specs.declared.schedule.Schedule.{Schedule}
+use Rattle.wd_ports.specs.declared.told.Got.{Got}
+use Rattle.wd_ports.specs.declared.told.Got.TheVariants as got
+use Rattle.wd_ports.specs.declared.told.Accepted.{Accepted}
+use Rattle.wd_ports.specs.declared.told.Accepted.TheVariants.{Link, Later, Closed}
+use Rattle.wd_base.specs.declared.ids.Ip4.{Ip4}
+use Rattle.wd_ports.specs.Schedule.{stream_at, arrival_got, arrival_gone, next_place, socket_at, is_over}
+use Rattle.wd_ports.specs.Streams.{reply_got}
+use Rattle.wd_ports.specs.Times.{next_mark}
 use Rattle.wd_ports.specs.declared.mem_port.MemLink.{MemLink}
 use Rattle.wd_ports.specs.declared.mem_port.MemPort.{MemPort}
-use Rattle.wd_ports.specs.MemFiles.{stored}
-use Rattle.wd_ports.specs.Links.{side_of, IsOrigin}
-use Rattle.wd_ports.specs.Told.{Told, Has, blank, new_link}
+use Rattle.wd_ports.specs.MemFiles.{stored, is_failing, next_call}
+use Rattle.wd_ports.specs.Links.{side_of, IsOrigin, last_link}
+use Rattle.wd_ports.specs.Told.{Told, Has, blank, new_link, hosts_at}
 
 abbrev pub new_mem : LinkOrigin → Source → MemLink
 new_mem origin source = record { told = new_link origin; source = source; gone = false }
 
 abbrev pub blank_mem : MemLink
-blank_mem = record { told = blank; source = Arrival 0; gone = false }
+blank_mem = record { told = blank; source = from.Arrival 0; gone = false }
 
 -- the link at a place
 abbrev pub mem_link : List MemLink → ℕ → MemLink
@@ -37,6 +48,109 @@ changed i change links = slice_set links i (record (mem_link links i) { told = c
 -- the link there is gone
 abbrev pub lost : ℕ → List MemLink → List MemLink
 lost i links = slice_set links i (record (mem_link links i) { gone = true })
+
+-- the place of the first peer with that address and port
+abbrev pub peer_place : List Peer → Ip4 → ℕ → Option ℕ
+peer_place peers ip port = position_from (λ peer. nat_eq peer.ip.0 ip.0 && nat_eq peer.port port) 0 peers
+
+-- what a read gives of a peer's reply; no peer sends nothing
+abbrev pub peer_got : Schedule → Option Peer → ℕ → ℕ → Got
+peer_got s (Some peer) read room = reply_got s.clock.mark read room peer
+peer_got s None read room = got.Later
+
+-- what a read gives where the bytes of a link come from, behind those that were read
+abbrev pub source_got : Schedule → List Peer → Source → ℕ → ℕ → Got
+source_got s peers (from.Arrival arrival) read room = arrival_got s arrival read room
+source_got s peers (from.Peer at) read room = peer_got s (slice_get peers at) read room
+
+-- all bytes that come from there
+abbrev pub source_bytes : Schedule → List Peer → Source → List ℕ
+source_bytes s peers (from.Arrival arrival) = (stream_at s arrival).bytes
+source_bytes s peers (from.Peer at) = unwrap_or (option_map (λ peer. peer.reply) (slice_get peers at)) []
+
+-- what a port does not tell: its schedule and peers, the numbers of its calls that fail, how many calls
+-- there were, and where the bytes of its links come from
+pub record Unseen : Type 0 where
+  pub schedule : Schedule
+  pub peers : List Peer
+  pub fail : List ℕ
+  pub calls : ℕ
+  pub sources : List Source
+
+abbrev pub unseen : MemPort → Unseen
+unseen p = record { schedule = p.schedule; peers = p.peers; fail = p.fail; calls = p.calls; sources = map (λ m. m.source) p.links.items }
+
+-- the same of a port that was just made of a plan
+abbrev pub new_unseen : PortPlan → Schedule → Unseen
+new_unseen plan schedule = record { schedule = schedule; peers = plan.peers; fail = plan.fail; calls = 0; sources = [] }
+
+-- a call was counted
+abbrev pub called : Unseen → Unseen
+called u = record u { calls = next_call u.calls }
+
+-- the mark was raised
+abbrev pub marked : Unseen → Unseen
+marked u = record u { schedule = record u.schedule { clock = next_mark u.schedule.clock } }
+
+-- the next call fails
+abbrev pub fails_next : MemPort → Bool
+fails_next p = is_failing p.fail p.calls
+
+-- a call of `listen` fails
+abbrev pub listen_fails : MemPort → Bool
+listen_fails p = fails_next p || nat_lt 4294967295 (length p.sockets)
+
+-- the addresses of a host, where it has any
+abbrev pub host_ips : List (List ℕ × List Ip4) → List ℕ → Option (List Ip4)
+host_ips hosts host = option_and_then (λ ips. if nat_lt 0 (length ips) then Some ips else None) (hosts_at hosts host)
+
+-- a call of `lookup` fails
+abbrev pub lookup_fails : MemPort → List ℕ → Bool
+lookup_fails p host = fails_next p || is_none (host_ips p.hosts host)
+
+-- no further link is given
+abbrev pub is_shut : MemPort → Bool
+is_shut p = p.closed || nat_le last_link (length p.links.items)
+
+-- the place of the arrival that `accept` takes
+abbrev pub accept_place : MemPort → Option ℕ
+accept_place p = if is_shut p then None else next_place (length p.sockets) p.schedule
+
+-- what `accept` answers, where it takes the arrival at a place, or none
+abbrev pub answer_at : MemPort → Option ℕ → Accepted
+answer_at p (Some place) = Link (unwrap_or (socket_at p.schedule place) (record { 0 = 0 })) (record { 0 = length p.links.items + 1 })
+answer_at p None = if is_shut p || is_over p.schedule then Closed else Later
+
+-- the arrival at a place was taken, and its link is the last
+abbrev pub taken : Option ℕ → Unseen → Unseen
+taken (Some place) u = record u { schedule = record u.schedule { next = min (place + 1) 18446744073709551615 }; sources = u.sources ++ from.Arrival place ∷ [] }
+taken None u = u
+
+-- a call of `connect` fails
+abbrev pub connect_fails : MemPort → Ip4 → ℕ → Bool
+connect_fails p ip port = fails_next p || nat_le last_link (length p.links.items) || is_none (peer_place p.peers ip port)
+
+-- a link to the peer at a place is the last
+abbrev pub with_peer : Option ℕ → Unseen → Unseen
+with_peer (Some place) u = record u { sources = u.sources ++ from.Peer place ∷ [] }
+with_peer None u = u
+
+-- what a read of link n gives where the call does not fail
+abbrev pub link_got : MemPort → LinkNo → ℕ → Got
+link_got p n room = source_got p.schedule p.peers (mem_link p.links.items (n.0 - 1)).source (length (mem_link p.links.items (n.0 - 1)).told.received) room
+
+-- the link is gone by the plan
+abbrev pub source_gone : Schedule → Source → Bool
+source_gone s (from.Arrival arrival) = arrival_gone s arrival
+source_gone s (from.Peer at) = false
+
+-- link n was found gone, or is gone by the plan
+abbrev pub link_gone : MemPort → LinkNo → Bool
+link_gone p n = (mem_link p.links.items (n.0 - 1)).gone || source_gone p.schedule (mem_link p.links.items (n.0 - 1)).source
+
+-- the bytes that come on link n behind those that were read
+abbrev pub unread : MemPort → LinkNo → List ℕ
+unread p n = drop (length (mem_link p.links.items (n.0 - 1)).told.received) (source_bytes p.schedule p.peers (mem_link p.links.items (n.0 - 1)).source)
 
 abbrev pub mem_told : MemPort → Told
 mem_told p = record {

@@ -2,6 +2,7 @@
 //! sink of printed text, and the gate before a turn. Beside each trait stands its form in memory.
 #![tactic(auto)]
 
+mod clock;
 mod gate;
 mod maker;
 mod mem_files;
@@ -13,6 +14,7 @@ mod port;
 mod schedule;
 mod send;
 mod sink;
+mod stream;
 #[cfg(test)]
 mod tests;
 mod told;

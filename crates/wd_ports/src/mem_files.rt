@@ -1,10 +1,12 @@
-ghost use Rattle.std.specs.Prelude.{◌≡◌, ◌≢◌, ℕ, ◌+◌, ◌<◌, ◌≤◌, min, nat_eq, List, [], ◌∷◌, ◌++◌, length, map, IfOk, OnOk, OnErr, IsErrOf, IsTrue};
+ghost use Rattle.std.specs.Prelude.{◌≡◌, ◌≢◌, ℕ, ◌+◌, ◌<◌, ◌≤◌, min, nat_eq, List, [], ◌∷◌, ◌++◌, length, map, IfOk, OnOk, OnErr, IsErrOf, IsTrue, IfSome, ◌↔◌};
+ghost use Rattle.wd_ports.specs.Faults.{Blames, ReadFile, ListFolder, WriteFile};
+ghost use Rattle.wd_ports.specs.Links.{Keeps, Stays, AddsNone};
 ghost use Rattle.std.specs.List.{list_any};
 ghost use Rattle.std.specs.Str.{bytes_eq};
 ghost use Rattle.std.specs.Option.{option_copied};
 ghost use Rattle.wd_ports.specs.declared.told.Side.TheVariants.{Accepted};
-ghost use Rattle.wd_ports.specs.MemFiles.{files_told, files_faults, stored, IsPlace, IsSet};
-ghost use Rattle.wd_ports.specs.Told.{file_in, is_child, names_in, names_at, slash};
+ghost use Rattle.wd_ports.specs.MemFiles.{files_told, files_faults, is_failing, next_call, read_fails, no_link, no_side, stored, IsPlace, IsSet};
+ghost use Rattle.wd_ports.specs.Told.{WritesFile, file_in, is_child, names_in, names_at, slash};
 
 use crate::port::Files;
 use crate::told::{Failed, FileFaults, FileKind, Name, Names};
@@ -220,7 +222,17 @@ impl Files for MemFiles {
 
     ghost gone = { λ f n. ⊥ };
 
-    fn read(&mut self, alloc: Global, path: &str) -> Result<Option<Bytes>, Failed> {
+    fn read(&mut self, alloc: Global, path: &str) -> Result<Option<Bytes>, Failed>
+        ensures fails { IsErrOf result Failed.Fault ↔ IsTrue (read_fails self.old path.now) }
+        ensures rest { self.new ≡ record self.old { calls = next_call self.old.calls; faults = self.new.faults } }
+        ensures bytes { IfOk result (λ found. found ≡ file_in self.old.files path.now) }
+        ensures room { IfOk result (λ found. IfSome found (λ bytes. length bytes ≤ 536870912)) }
+        ensures tells { files_told self.new ≡ files_told self.old }
+        ensures blames { Blames ReadFile (files_faults self.old) (files_faults self.new) result }
+        ensures keeps { Keeps no_link no_side no_link no_side }
+        ensures stays { Stays no_link no_link }
+        ensures memory { IsErrOf result Failed.NoMemory → AddsNone no_link no_side no_link no_link no_side no_link }
+    {
         if fails_now(&self.fail, &mut self.calls) {
             self.faults.read = self.faults.read.saturating_add(1);
             return Err(Failed::Fault);
@@ -235,7 +247,16 @@ impl Files for MemFiles {
         Ok(Some(bytes.try_clone(alloc)?))
     }
 
-    fn list(&mut self, alloc: Global, path: &str) -> Result<Option<Names>, Failed> {
+    fn list(&mut self, alloc: Global, path: &str) -> Result<Option<Names>, Failed>
+        ensures fails { IsErrOf result Failed.Fault ↔ IsTrue (is_failing self.old.fail self.old.calls) }
+        ensures rest { self.new ≡ record self.old { calls = next_call self.old.calls; faults = self.new.faults } }
+        ensures names { IfOk result (λ found. found ≡ names_at (stored self.old) path.now) }
+        ensures tells { files_told self.new ≡ files_told self.old }
+        ensures blames { Blames ListFolder (files_faults self.old) (files_faults self.new) result }
+        ensures keeps { Keeps no_link no_side no_link no_side }
+        ensures stays { Stays no_link no_link }
+        ensures memory { IsErrOf result Failed.NoMemory → AddsNone no_link no_side no_link no_link no_side no_link }
+    {
         if fails_now(&self.fail, &mut self.calls) {
             self.faults.list = self.faults.list.saturating_add(1);
             return Err(Failed::Fault);
@@ -243,7 +264,16 @@ impl Files for MemFiles {
         Ok(names_of(alloc, &self.files, &self.folders, path.as_bytes())?)
     }
 
-    fn write(&mut self, alloc: Global, path: &str, bytes: &[u8]) -> Result<(), Failed> {
+    fn write(&mut self, alloc: Global, path: &str, bytes: &[u8]) -> Result<(), Failed>
+        ensures fails { IsErrOf result Failed.Fault ↔ IsTrue (is_failing self.old.fail self.old.calls) }
+        ensures rest { self.new ≡ record self.old { files = self.new.files; calls = next_call self.old.calls; faults = self.new.faults } }
+        ensures err { OnErr result (self.new.files ≡ self.old.files) }
+        ensures tells { WritesFile path.now bytes.now result (files_told self.old) (files_told self.new) }
+        ensures blames { Blames WriteFile (files_faults self.old) (files_faults self.new) result }
+        ensures keeps { Keeps no_link no_side no_link no_side }
+        ensures stays { Stays no_link no_link }
+        ensures memory { IsErrOf result Failed.NoMemory → AddsNone no_link no_side no_link no_link no_side no_link }
+    {
         if fails_now(&self.fail, &mut self.calls) {
             self.faults.write = self.faults.write.saturating_add(1);
             return Err(Failed::Fault);

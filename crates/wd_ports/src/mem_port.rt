@@ -1,15 +1,18 @@
-ghost use Rattle.std.specs.Prelude.{◌≡◌, ◌≢◌, ℕ, ◌+◌, ◌-◌, ◌<◌, ◌≤◌, [], ◌∷◌, ◌++◌, List, length, take, map, min, Some, IfOk, OnOk, OnErr, IfSome, IsSome, ◌↔◌, IsTrue, IsErrOf};
+ghost use Rattle.std.specs.Prelude.{◌≡◌, ◌≢◌, ℕ, ◌+◌, ◌-◌, ◌<◌, ◌≤◌, [], ◌∷◌, ◌++◌, List, length, take, drop, map, min, Some, IfOk, OnOk, OnErr, IfSome, IsSome, ◌↔◌, IsTrue, IsErrOf};
 ghost use Rattle.wd_ports.specs.MemFiles.{stored};
-ghost use Rattle.wd_ports.specs.MemPort.{mem_told, mem_faults, mem_usable, mem_side, mem_gone, mem_link, changed, lost, new_mem, planned_told, planned_files, total_faults};
-ghost use Rattle.wd_ports.specs.Told.{IsNewPort, hosts_at, link_of, with_sent, with_received, with_end, with_shut};
-ghost use Rattle.wd_ports.specs.Faults.{no_faults, part, with_part, ReadLink, WriteLink};
-ghost use Rattle.wd_ports.specs.Links.{IsCount, side_of, last_link};
+ghost use Rattle.wd_base.specs.declared.ids.LinkNo.{LinkNo};
+ghost use Rattle.wd_ports.specs.Schedule.{IsPlanned};
+ghost use Rattle.wd_ports.specs.Streams.{Copied};
+ghost use Rattle.wd_ports.specs.MemPort.{mem_told, mem_faults, mem_usable, mem_side, mem_gone, mem_link, peer_place, source_got, source_bytes, unseen, new_unseen, called, marked, fails_next, link_got, link_gone, unread, listen_fails, host_ips, lookup_fails, answer_at, accept_place, taken, connect_fails, with_peer, changed, lost, new_mem, planned_told, planned_files, total_faults};
+ghost use Rattle.wd_ports.specs.Told.{IsNewPort, file_at, names_at, WritesFile, after_listen, after_accept, after_connect, after_read, after_write, shut_on, hosts_at, link_of, with_sent, with_received, with_end, with_shut};
+ghost use Rattle.wd_ports.specs.Faults.{no_faults, Blames, ReadFile, ListFolder, WriteFile, Listen, Lookup, Connect, part, with_part, ReadLink, WriteLink};
+ghost use Rattle.wd_ports.specs.Links.{IsCount, IsFresh, IsNext, UsableLink, Keeps, KeepsOthers, Stays, AddsNone, side_of, last_link};
 
 use crate::mem_files::{MemFiles, fails_now};
 use crate::plan::{Hosts, Peers, PortPlan};
 use crate::port::{Files, Port};
 use crate::schedule::Schedule;
-use crate::told::{Accepted, Failed, Faults, FileFaults, Got, LinkOrigin, LinkState, Names};
+use crate::told::{Accepted, Failed, Faults, FileFaults, Got, LinkOrigin, LinkState, Names, Side};
 use std::alloc::Global;
 use wd_base::{Addr, Bytes, Ip4, Ips, LinkNo, NoMemory, Numbers, Seq, SockNo, TryClone};
 
@@ -80,8 +83,10 @@ impl MemPort {
         ensures told { IfOk result (λ port. mem_told port ≡ planned_told plan) }
         ensures files { IfOk result (λ port. port.files ≡ planned_files plan) }
         ensures none { IfOk result (λ port. mem_faults port ≡ no_faults) }
+        ensures planned { IfOk result (λ port. IsPlanned plan.events port.schedule) }
+        ensures rest { IfOk result (λ port. unseen port ≡ new_unseen plan port.schedule) }
     {
-        let schedule = Schedule::new(alloc, plan.events)?;
+        let schedule = Schedule::new(alloc, &plan.events)?;
         let mut files = plan.files;
         files.faults = no_file_faults();
         Ok(MemPort {
@@ -173,15 +178,39 @@ impl Files for MemPort {
 
     ghost gone = { mem_gone };
 
-    fn read(&mut self, alloc: Global, path: &str) -> Result<Option<Bytes>, Failed> {
+    fn read(&mut self, alloc: Global, path: &str) -> Result<Option<Bytes>, Failed>
+        ensures rest { self.new ≡ record self.old { files = self.new.files } }
+        ensures bytes { IfOk result (λ found. IfSome (mem_told self.old).files (λ s. found ≡ file_at s path.now)) }
+        ensures room { IfOk result (λ found. IfSome found (λ bytes. length bytes ≤ 536870912)) }
+        ensures tells { mem_told self.new ≡ mem_told self.old }
+        ensures blames { Blames ReadFile (mem_faults self.old) (mem_faults self.new) result }
+        ensures keeps { Keeps (mem_usable self.old) (mem_side self.old) (mem_usable self.new) (mem_side self.new) }
+        ensures stays { Stays (mem_gone self.old) (mem_gone self.new) }
+        ensures memory { IsErrOf result Failed.NoMemory → AddsNone (mem_usable self.old) (mem_side self.old) (mem_gone self.old) (mem_usable self.new) (mem_side self.new) (mem_gone self.new) }
+    {
         self.files.read(alloc, path)
     }
 
-    fn list(&mut self, alloc: Global, path: &str) -> Result<Option<Names>, Failed> {
+    fn list(&mut self, alloc: Global, path: &str) -> Result<Option<Names>, Failed>
+        ensures rest { self.new ≡ record self.old { files = self.new.files } }
+        ensures names { IfOk result (λ found. IfSome (mem_told self.old).files (λ s. found ≡ names_at s path.now)) }
+        ensures tells { mem_told self.new ≡ mem_told self.old }
+        ensures blames { Blames ListFolder (mem_faults self.old) (mem_faults self.new) result }
+        ensures keeps { Keeps (mem_usable self.old) (mem_side self.old) (mem_usable self.new) (mem_side self.new) }
+        ensures stays { Stays (mem_gone self.old) (mem_gone self.new) }
+        ensures memory { IsErrOf result Failed.NoMemory → AddsNone (mem_usable self.old) (mem_side self.old) (mem_gone self.old) (mem_usable self.new) (mem_side self.new) (mem_gone self.new) }
+    {
         self.files.list(alloc, path)
     }
 
-    fn write(&mut self, alloc: Global, path: &str, bytes: &[u8]) -> Result<(), Failed> {
+    fn write(&mut self, alloc: Global, path: &str, bytes: &[u8]) -> Result<(), Failed>
+        ensures rest { self.new ≡ record self.old { files = self.new.files } }
+        ensures tells { WritesFile path.now bytes.now result (mem_told self.old) (mem_told self.new) }
+        ensures blames { Blames WriteFile (mem_faults self.old) (mem_faults self.new) result }
+        ensures keeps { Keeps (mem_usable self.old) (mem_side self.old) (mem_usable self.new) (mem_side self.new) }
+        ensures stays { Stays (mem_gone self.old) (mem_gone self.new) }
+        ensures memory { IsErrOf result Failed.NoMemory → AddsNone (mem_usable self.old) (mem_side self.old) (mem_gone self.old) (mem_usable self.new) (mem_side self.new) (mem_gone self.new) }
+    {
         self.files.write(alloc, path, bytes)
     }
 }
@@ -259,7 +288,9 @@ fn add_link(
 
 /// The addresses of the first such host, if it has any.
 fn find_host(alloc: Global, hosts: &Hosts, host: &[u8]) -> Result<Option<Ips>, NoMemory>
-    ensures { IfOk result (λ found. IfSome found (λ ips. (0 < length ips) × (hosts_at hosts.now host.now ≡ Some ips))) }
+    ensures exact { IfOk result (λ found. found ≡ host_ips hosts.now host.now) }
+    ensures memory { OnErr result (IsSome (host_ips hosts.now host.now)) }
+    ensures some { IfOk result (λ found. IfSome found (λ ips. (0 < length ips) × (hosts_at hosts.now host.now ≡ Some ips))) }
 {
     for item in hosts.as_slice() {
         if item.0.as_slice() == host {
@@ -274,7 +305,9 @@ fn find_host(alloc: Global, hosts: &Hosts, host: &[u8]) -> Result<Option<Ips>, N
 }
 
 /// The place of the first peer with that address and port.
-fn find_peer(peers: &Peers, ip: Ip4, port: u16) -> Option<usize> {
+fn find_peer(peers: &Peers, ip: Ip4, port: u16) -> Option<usize>
+    ensures { result ≡ peer_place peers.now ip port }
+{
     peers
         .as_slice()
         .iter()
@@ -303,14 +336,16 @@ fn count_write(faults: &mut Faults, origin: LinkOrigin)
 
 /// Reads on from where the bytes of a link come from, behind those that were read.
 fn read_source(
-    schedule: &mut Schedule,
+    schedule: &Schedule,
     peers: &Peers,
     source: Source,
     read: usize,
     buf: &mut [u8],
 ) -> Got
-    requires { 0 < length buf.old }
-    ensures { IsCount result (length buf.new) }
+    ensures got { result ≡ source_got schedule.now peers.now source read (length buf.old) }
+    ensures count { 0 < length buf.old → IsCount result (length buf.old) }
+    ensures copied { Copied result (drop read (source_bytes schedule.now peers.now source)) buf.new }
+    ensures room { length buf.new ≡ length buf.old }
 {
     match source {
         Source::Arrival(arrival) => schedule.read(arrival, read, buf),
@@ -322,7 +357,16 @@ fn read_source(
 }
 
 impl Port for MemPort {
-    fn listen(&mut self, alloc: Global, address: &Addr) -> Result<SockNo, Failed> {
+    fn listen(&mut self, alloc: Global, address: &Addr) -> Result<SockNo, Failed>
+        ensures fails { IsErrOf result Failed.Fault ↔ IsTrue (listen_fails self.old) }
+        ensures unseen { unseen self.new ≡ called (unseen self.old) }
+        ensures number { IfOk result (λ s. s.0 ≡ length (mem_told self.old).sockets) }
+        ensures tells { mem_told self.new ≡ after_listen address.now result (mem_told self.old) }
+        ensures blames { Blames Listen (mem_faults self.old) (mem_faults self.new) result }
+        ensures keeps { Keeps (mem_usable self.old) (mem_side self.old) (mem_usable self.new) (mem_side self.new) }
+        ensures stays { Stays (mem_gone self.old) (mem_gone self.new) }
+        ensures memory { IsErrOf result Failed.NoMemory → (AddsNone (mem_usable self.old) (mem_side self.old) (mem_gone self.old) (mem_usable self.new) (mem_side self.new) (mem_gone self.new)) }
+    {
         if fails_now(&self.fail, &mut self.calls) {
             self.faults.listen = self.faults.listen.saturating_add(1);
             return Err(Failed::Fault);
@@ -336,7 +380,18 @@ impl Port for MemPort {
         Ok(SockNo(number))
     }
 
-    fn accept(&mut self, alloc: Global) -> Result<Accepted, NoMemory> {
+    fn accept(&mut self, alloc: Global) -> Result<Accepted, NoMemory>
+        ensures answer { IfOk result (λ a. a ≡ answer_at self.old (accept_place self.old)) }
+        ensures taken { OnOk result (unseen self.new ≡ taken (accept_place self.old) (unseen self.old)) }
+        ensures unseen { OnErr result (unseen self.new ≡ unseen self.old) }
+        ensures fresh { IfOk result (λ a. IsFresh a (mem_told self.old)) }
+        ensures link { IfOk result (λ a. UsableLink a (mem_usable self.new) (mem_side self.new)) }
+        ensures tells { mem_told self.new ≡ after_accept result (mem_told self.old) }
+        ensures blames { mem_faults self.new ≡ mem_faults self.old }
+        ensures keeps { Keeps (mem_usable self.old) (mem_side self.old) (mem_usable self.new) (mem_side self.new) }
+        ensures stays { Stays (mem_gone self.old) (mem_gone self.new) }
+        ensures memory { OnErr result (AddsNone (mem_usable self.old) (mem_side self.old) (mem_gone self.old) (mem_usable self.new) (mem_side self.new) (mem_gone self.new)) }
+    {
         let number = self.links.len();
         if self.closed || number >= u32::MAX as usize {
             self.closed = true;
@@ -361,7 +416,17 @@ impl Port for MemPort {
         }
     }
 
-    fn lookup(&mut self, alloc: Global, host: &str) -> Result<Ips, Failed> {
+    fn lookup(&mut self, alloc: Global, host: &str) -> Result<Ips, Failed>
+        ensures fails { IsErrOf result Failed.Fault ↔ IsTrue (lookup_fails self.old host.now) }
+        ensures unseen { unseen self.new ≡ called (unseen self.old) }
+        ensures some { IfOk result (λ ips. 0 < length ips) }
+        ensures answer { IfOk result (λ ips. IfSome (mem_told self.old).hosts (λ hosts. hosts_at hosts host.now ≡ Some ips)) }
+        ensures tells { mem_told self.new ≡ mem_told self.old }
+        ensures blames { Blames Lookup (mem_faults self.old) (mem_faults self.new) result }
+        ensures keeps { Keeps (mem_usable self.old) (mem_side self.old) (mem_usable self.new) (mem_side self.new) }
+        ensures stays { Stays (mem_gone self.old) (mem_gone self.new) }
+        ensures memory { IsErrOf result Failed.NoMemory → (AddsNone (mem_usable self.old) (mem_side self.old) (mem_gone self.old) (mem_usable self.new) (mem_side self.new) (mem_gone self.new)) }
+    {
         if fails_now(&self.fail, &mut self.calls) {
             self.faults.lookup = self.faults.lookup.saturating_add(1);
             return Err(Failed::Fault);
@@ -375,7 +440,18 @@ impl Port for MemPort {
         }
     }
 
-    fn connect(&mut self, alloc: Global, ip: Ip4, port: u16) -> Result<LinkNo, Failed> {
+    fn connect(&mut self, alloc: Global, ip: Ip4, port: u16) -> Result<LinkNo, Failed>
+        ensures fails { IsErrOf result Failed.Fault ↔ IsTrue (connect_fails self.old ip port) }
+        ensures marks { OnOk result (unseen self.new ≡ marked (with_peer (peer_place self.old.peers ip port) (called (unseen self.old)))) }
+        ensures unseen { OnErr result (unseen self.new ≡ called (unseen self.old)) }
+        ensures fresh { IfOk result (λ n. IsNext n (mem_told self.old)) }
+        ensures link { IfOk result (λ n. mem_usable self.new n × (mem_side self.new n ≡ Side.Connected)) }
+        ensures tells { mem_told self.new ≡ after_connect ip port result (mem_told self.old) }
+        ensures blames { Blames Connect (mem_faults self.old) (mem_faults self.new) result }
+        ensures keeps { Keeps (mem_usable self.old) (mem_side self.old) (mem_usable self.new) (mem_side self.new) }
+        ensures stays { Stays (mem_gone self.old) (mem_gone self.new) }
+        ensures memory { IsErrOf result Failed.NoMemory → (AddsNone (mem_usable self.old) (mem_side self.old) (mem_gone self.old) (mem_usable self.new) (mem_side self.new) (mem_gone self.new)) }
+    {
         let number = self.links.len();
         if fails_now(&self.fail, &mut self.calls) || number >= u32::MAX as usize {
             self.faults.connect = self.faults.connect.saturating_add(1);
@@ -395,7 +471,21 @@ impl Port for MemPort {
         }
     }
 
-    fn read_link(&mut self, link: LinkNo, buf: &mut [u8]) -> Result<Got, Failed> {
+    fn read_link(&mut self, link: LinkNo, buf: &mut [u8]) -> Result<Got, Failed>
+        requires usable { mem_usable self.old link }
+        requires room { 0 < length buf.old }
+        ensures got { IfOk result (λ got. got ≡ link_got self.old link (length buf.old)) }
+        ensures copied { IfOk result (λ got. Copied got (unread self.old link) buf.new) }
+        ensures fails { IsErrOf result Failed.Fault ↔ IsTrue (fails_next self.old) }
+        ensures unseen { unseen self.new ≡ called (unseen self.old) }
+        ensures count { IfOk result (λ got. IsCount got (length buf.new)) }
+        ensures tells { mem_told self.new ≡ after_read link result buf.new (mem_told self.old) }
+        ensures blames { Blames (ReadLink (mem_side self.old link)) (mem_faults self.old) (mem_faults self.new) result }
+        ensures lost { IsErrOf result Failed.Fault → mem_gone self.new link }
+        ensures keeps { Keeps (mem_usable self.old) (mem_side self.old) (mem_usable self.new) (mem_side self.new) }
+        ensures stays { Stays (mem_gone self.old) (mem_gone self.new) }
+        ensures memory { IsErrOf result Failed.NoMemory → AddsNone (mem_usable self.old) (mem_side self.old) (mem_gone self.old) (mem_usable self.new) (mem_side self.new) (mem_gone self.new) }
+    {
         let at = link.0 as usize - 1;
         if fails_now(&self.fail, &mut self.calls) {
             count_read(&mut self.faults, self.links[at].told.origin);
@@ -404,7 +494,7 @@ impl Port for MemPort {
         }
         let source = self.links[at].source;
         let read = self.links[at].told.received.len();
-        let got = read_source(&mut self.schedule, &self.peers, source, read, buf);
+        let got = read_source(&self.schedule, &self.peers, source, read, buf);
         match got {
             Got::Bytes(count) => add_received(&mut self.links, at, &buf[..count])?,
             Got::Later => {}
@@ -413,7 +503,21 @@ impl Port for MemPort {
         Ok(got)
     }
 
-    fn write_link(&mut self, link: LinkNo, bytes: &[u8]) -> Result<usize, Failed> {
+    fn write_link(&mut self, link: LinkNo, bytes: &[u8]) -> Result<usize, Failed>
+        requires usable { mem_usable self.old link }
+        requires some { 0 < length bytes.now }
+        ensures whole { IfOk result (λ k. k ≡ length bytes.now) }
+        ensures fails { IsErrOf result Failed.Fault ↔ IsTrue (fails_next self.old) }
+        ensures marks { OnOk result (unseen self.new ≡ marked (called (unseen self.old))) }
+        ensures unseen { OnErr result (unseen self.new ≡ called (unseen self.old)) }
+        ensures count { IfOk result (λ k. (0 < k) × (k ≤ length bytes.now)) }
+        ensures tells { mem_told self.new ≡ after_write link result bytes.now (mem_told self.old) }
+        ensures blames { Blames (WriteLink (mem_side self.old link)) (mem_faults self.old) (mem_faults self.new) result }
+        ensures lost { IsErrOf result Failed.Fault → mem_gone self.new link }
+        ensures keeps { Keeps (mem_usable self.old) (mem_side self.old) (mem_usable self.new) (mem_side self.new) }
+        ensures stays { Stays (mem_gone self.old) (mem_gone self.new) }
+        ensures memory { IsErrOf result Failed.NoMemory → AddsNone (mem_usable self.old) (mem_side self.old) (mem_gone self.old) (mem_usable self.new) (mem_side self.new) (mem_gone self.new) }
+    {
         let at = link.0 as usize - 1;
         if fails_now(&self.fail, &mut self.calls) {
             count_write(&mut self.faults, self.links[at].told.origin);
@@ -425,7 +529,18 @@ impl Port for MemPort {
         Ok(bytes.len())
     }
 
-    fn gone(&mut self, link: LinkNo) -> bool {
+    fn gone(&mut self, link: LinkNo) -> bool
+        requires { mem_usable self.old link }
+        ensures value { result ≡ link_gone self.old link }
+        ensures others { (n : LinkNo) → 0 < n.0 → n.0 ≢ link.0 → (mem_gone self.new n ↔ mem_gone self.old n) }
+        ensures unseen { unseen self.new ≡ unseen self.old }
+        ensures found { IsTrue result → mem_gone self.new link }
+        ensures answer { IsSome (mem_told self.old).links → (IsTrue result ↔ mem_gone self.new link) }
+        ensures tells { mem_told self.new ≡ mem_told self.old }
+        ensures blames { mem_faults self.new ≡ mem_faults self.old }
+        ensures keeps { Keeps (mem_usable self.old) (mem_side self.old) (mem_usable self.new) (mem_side self.new) }
+        ensures stays { Stays (mem_gone self.old) (mem_gone self.new) }
+    {
         let at = link.0 as usize - 1;
         if let Source::Arrival(arrival) = self.links[at].source {
             if self.schedule.is_gone(arrival) {
@@ -436,11 +551,25 @@ impl Port for MemPort {
         self.links[at].gone
     }
 
-    fn shut(&mut self, link: LinkNo) {
+    fn shut(&mut self, link: LinkNo)
+        requires { mem_usable self.old link }
+        ensures unseen { unseen self.new ≡ unseen self.old }
+        ensures over { mem_usable self.new link → ⊥ }
+        ensures tells { mem_told self.new ≡ shut_on link (mem_told self.old) }
+        ensures blames { mem_faults self.new ≡ mem_faults self.old }
+        ensures keeps { KeepsOthers link (mem_usable self.old) (mem_side self.old) (mem_usable self.new) (mem_side self.new) }
+        ensures stays { (n : LinkNo) → mem_gone self.old n ↔ mem_gone self.new n }
+    {
         add_shut(&mut self.links, link.0 as usize - 1);
     }
 
-    fn idle(&mut self) {}
+    fn idle(&mut self)
+        ensures same { self.new ≡ self.old }
+        ensures tells { mem_told self.new ≡ mem_told self.old }
+        ensures blames { mem_faults self.new ≡ mem_faults self.old }
+        ensures keeps { Keeps (mem_usable self.old) (mem_side self.old) (mem_usable self.new) (mem_side self.new) }
+        ensures stays { Stays (mem_gone self.old) (mem_gone self.new) }
+    {}
 
     ghost use Rattle.wd_ports.specs.MemPort.{usable_has, origin_is};
 

@@ -1,212 +1,157 @@
-ghost use Rattle.std.specs.Prelude.{◌≡◌, ℕ, ◌+◌, ◌<◌, ◌≤◌, length, min, take, IfSome, OnOk, OnErr};
+ghost use Rattle.std.specs.Prelude.{◌≡◌, ℕ, ◌+◌, ◌<◌, ◌≤◌, length, map, min, drop, slice_index_or, All, Some, IfSome, IfOk, OnOk, OnErr, IsTrue, ◌↔◌, option_map};
 ghost use Rattle.wd_ports.specs.Links.{IsCount};
+ghost use Rattle.wd_ports.specs.Times.{happened, next_mark};
+ghost use Rattle.wd_ports.specs.Streams.{Copied, reply_got, no_stream, event_link, link_event, link_stream};
+ghost use Rattle.wd_ports.specs.Schedule.{IsPlanned, arrivals_of, is_over, next_place, socket_at, stream_at, arrival_got, arrival_gone};
 
+use crate::clock::Clock;
 use crate::plan::{Peer, PortEvent, Timed};
+use crate::stream::{Stream, copy_front};
 use crate::told::Got;
 use std::alloc::Global;
-use wd_base::{Bytes, LinkNo, NoMemory, Numbers, Seq, SockNo};
-
-/// Bytes that come on a link: the number of their event, how many come before them, and they.
-#[derive(Debug, Drop)]
-struct Piece {
-    event: usize,
-    start: usize,
-    bytes: Bytes,
-}
-
-/// What comes on a link of the plan: its bytes piece by piece, and the numbers of the events by
-/// which it ends and is gone.
-#[derive(Debug, Drop)]
-struct Stream {
-    pieces: Seq<Piece>,
-    /// The first piece of which not all was read.
-    piece: usize,
-    /// How many bytes the pieces have.
-    total: usize,
-    end: Option<usize>,
-    gone: Option<usize>,
-}
+use wd_base::{LinkNo, NoMemory, Numbers, Seq, SockNo};
 
 /// A link that comes at a socket, and the number of its event.
 #[derive(Clone, Copy, Debug, PartialEq, Eq)]
-struct Arrival {
-    event: usize,
-    socket: SockNo,
+pub struct Arrival {
+    pub event: usize,
+    pub socket: SockNo,
 }
 
 /// The events of a plan, sorted by link, and how many of them have happened.
 #[derive(Debug, Drop)]
 pub struct Schedule {
-    /// The marks of the events.
-    due: Numbers,
-    happened: usize,
-    marks: u64,
+    clock: Clock,
     arrivals: Seq<Arrival>,
-    /// The first arrival that was not taken.
+    /// The first arrival that was neither taken nor passed over.
     next: usize,
     /// What comes on the link of each arrival.
     streams: Vec<Stream>,
 }
 
-/// Copies as many bytes as there is room for, and says how many.
-fn copy_front(bytes: &[u8], buf: &mut [u8]) -> usize
-    ensures count { result ≡ min (length bytes.now) (length buf.old) }
-    ensures room { length buf.new ≡ length buf.old }
-    ensures copied { take result buf.new ≡ take result bytes.now }
+/// The marks of events.
+fn marks_of(alloc: Global, events: &[(u64, PortEvent)]) -> Result<Numbers, NoMemory>
+    ensures { IfOk result (λ due. due ≡ map (λ event. event.0) events.now) }
 {
-    let count = bytes.len().min(buf.len());
-    buf[..count].copy_from_slice(&bytes[..count]);
-    count
+    let mut due = Seq::new(alloc);
+    for event in events {
+        due.push(event.0)?;
+    }
+    Ok(due)
 }
 
-/// The first of two events, where there is one already.
-fn first_event(known: Option<usize>, event: usize) -> usize {
-    match known {
-        Some(first) => first,
-        None => event,
+/// The arrivals among events.
+fn arrivals_of(alloc: Global, events: &[(u64, PortEvent)]) -> Result<Seq<Arrival>, NoMemory>
+    ensures { IfOk result (λ arrivals. arrivals ≡ arrivals_of events.now) }
+{
+    let mut arrivals = Seq::new(alloc);
+    for number in 0..events.len() {
+        if let PortEvent::Accept(socket) = &events[number].1 {
+            let socket = *socket;
+            arrivals.push(Arrival {
+                event: number,
+                socket,
+            })?;
+        }
+    }
+    Ok(arrivals)
+}
+
+/// So many links on which nothing comes.
+fn empty_streams(alloc: Global, count: usize) -> Result<Vec<Stream>, NoMemory>
+    ensures count { IfOk result (λ streams. length streams.items ≡ count) }
+    ensures each { IfOk result (λ streams. All (λ stream. stream ≡ no_stream) streams.items) }
+{
+    let mut streams = Vec::new(alloc);
+    for _ in 0..count {
+        if streams.push(Stream::new(alloc)).is_err() {
+            return Err(NoMemory);
+        }
+    }
+    Ok(streams)
+}
+
+/// The link on which an event comes.
+fn event_link(event: &PortEvent) -> Option<LinkNo>
+    ensures { result ≡ event_link event.now }
+{
+    match event {
+        PortEvent::Accept(_) => None,
+        PortEvent::Bytes(link, _) | PortEvent::End(link) | PortEvent::Gone(link) => Some(*link),
     }
 }
 
-impl Stream {
-    fn new(alloc: Global) -> Stream {
-        Stream {
-            pieces: Seq::new(alloc),
-            piece: 0,
-            total: 0,
-            end: None,
-            gone: None,
-        }
+/// Adds an event behind the others, with its number. One of a link that does not come is nothing.
+fn add_event(
+    streams: &mut Vec<Stream>,
+    number: usize,
+    event: &(u64, PortEvent),
+) -> Result<(), NoMemory>
+    ensures count { OnOk result (length streams.new.items ≡ length streams.old.items) }
+    ensures each { OnOk result ((k : ℕ) → k < length streams.old.items → slice_index_or streams.new.items k no_stream ≡ link_event (k + 1) (slice_index_or streams.old.items k no_stream) (number, event.now)) }
+{
+    let Some(link) = event_link(&event.1) else {
+        return Ok(());
+    };
+    let place = link.0 as usize;
+    if place == 0 || streams.len() < place {
+        return Ok(());
     }
+    streams[place - 1].add(number, &event.1)
+}
 
-    fn add(&mut self, event: usize, bytes: Bytes) -> Result<(), NoMemory> {
-        let start = self.total;
-        self.total = start.saturating_add(bytes.len());
-        self.pieces.push(Piece {
-            event,
-            start,
-            bytes,
-        })
+/// What comes on the first so many links of a plan by its events.
+fn streams_of(
+    alloc: Global,
+    count: usize,
+    events: &[(u64, PortEvent)],
+) -> Result<Vec<Stream>, NoMemory>
+    ensures count { IfOk result (λ streams. length streams.items ≡ count) }
+    ensures each { IfOk result (λ streams. (k : ℕ) → k < count → slice_index_or streams.items k no_stream ≡ link_stream (k + 1) events.now) }
+{
+    let mut streams = empty_streams(alloc, count)?;
+    for number in 0..events.len() {
+        add_event(&mut streams, number, &events[number])?;
     }
-
-    /// Passes over the pieces that were read whole.
-    fn pass_over(&mut self, read: usize) {
-        let pieces = self.pieces.as_slice();
-        for at in self.piece..pieces.len() {
-            let piece = &pieces[at];
-            if read < piece.start.saturating_add(piece.bytes.len()) {
-                self.piece = at;
-                return;
-            }
-        }
-        self.piece = pieces.len();
-    }
-
-    /// Reads on, behind the bytes that were read, from the events that have happened. At most one
-    /// piece is read at a time, and none that comes behind the end.
-    fn read(&mut self, happened: usize, read: usize, buf: &mut [u8]) -> Got
-        requires { 0 < length buf.old }
-        ensures { IsCount result (length buf.new) }
-    {
-        self.pass_over(read);
-        let end = self.end.unwrap_or(usize::MAX);
-        if let Some(piece) = self.pieces.get(self.piece) {
-            if piece.event < happened && piece.event < end {
-                let offset = read.saturating_sub(piece.start);
-                if offset < piece.bytes.len() {
-                    return Got::Bytes(copy_front(&piece.bytes.as_slice()[offset..], buf));
-                }
-            }
-        }
-        if end < happened { Got::End } else { Got::Later }
-    }
+    Ok(streams)
 }
 
 impl Schedule {
-    /// The schedule of events of which none has happened, at mark 0.
-    pub fn new(alloc: Global, events: Timed) -> Result<Schedule, NoMemory> {
-        let mut schedule = Schedule {
-            due: Seq::new(alloc),
-            happened: 0,
-            marks: 0,
-            arrivals: Seq::new(alloc),
-            next: 0,
-            streams: Vec::new(alloc),
-        };
-        for (_, event) in events.as_slice() {
-            if let PortEvent::Accept(_) = event {
-                if schedule.streams.push(Stream::new(alloc)).is_err() {
-                    return Err(NoMemory);
-                }
-            }
-        }
-        for (mark, event) in events.into_vec() {
-            schedule.add(mark, event)?;
-        }
-        Ok(schedule)
-    }
-
-    /// Adds an event behind the others. One of a link that does not come is nothing.
-    fn add(&mut self, mark: u64, event: PortEvent) -> Result<(), NoMemory> {
-        let number = self.due.len();
-        match event {
-            PortEvent::Accept(socket) => self.arrivals.push(Arrival {
-                event: number,
-                socket,
-            })?,
-            PortEvent::Bytes(link, bytes) => {
-                if let Some(stream) = self.stream_of(link) {
-                    stream.add(number, bytes)?;
-                }
-            }
-            PortEvent::End(link) => {
-                if let Some(stream) = self.stream_of(link) {
-                    stream.end = Some(first_event(stream.end, number));
-                }
-            }
-            PortEvent::Gone(link) => {
-                if let Some(stream) = self.stream_of(link) {
-                    stream.gone = Some(first_event(stream.gone, number));
-                }
-            }
-        }
-        self.due.push(mark)
-    }
-
-    /// What comes on a link of the plan.
-    fn stream_of(&mut self, link: LinkNo) -> Option<&mut Stream> {
-        if link.0 == 0 {
-            return None;
-        }
-        self.streams.get_mut(link.0 as usize - 1)
-    }
-
-    /// Raises the marks by one.
-    pub fn mark(&mut self) {
-        self.marks = self.marks.saturating_add(1);
-    }
-
-    /// The events at the front whose marks have been reached happen.
-    fn advance(&mut self) {
-        let due = self.due.as_slice();
-        for at in self.happened..due.len() {
-            if due[at] > self.marks {
-                self.happened = at;
-                return;
-            }
-        }
-        self.happened = due.len();
-    }
-
-    /// The next arrival that has happened, at one of so many sockets. An arrival at another socket
-    /// is passed over.
-    pub fn next_arrival(&mut self, sockets: usize) -> Option<(usize, SockNo)>
-        ensures { IfSome result (λ found. found.1.0 < sockets) }
+    /// The schedule of events, at mark 0.
+    pub fn new(alloc: Global, events: &Timed) -> Result<Schedule, NoMemory>
+        ensures { IfOk result (λ schedule. IsPlanned events.now schedule) }
     {
-        self.advance();
+        let events = events.as_slice();
+        let due = marks_of(alloc, events)?;
+        let arrivals = arrivals_of(alloc, events)?;
+        let streams = streams_of(alloc, arrivals.len(), events)?;
+        Ok(Schedule {
+            clock: Clock::new(due),
+            arrivals,
+            next: 0,
+            streams,
+        })
+    }
+
+    /// Raises the mark by one.
+    pub fn mark(&mut self)
+        ensures { self.new ≡ record self.old { clock = next_mark self.old.clock } }
+    {
+        self.clock.tick();
+    }
+
+    /// The next arrival that has happened, at one of so many sockets: its place, and its socket.
+    /// An arrival at another socket is passed over.
+    pub fn next_arrival(&self, sockets: usize) -> Option<(usize, SockNo)>
+        ensures place { option_map (λ found. found.0) result ≡ next_place sockets self.now }
+        ensures socket { IfSome result (λ found. socket_at self.now found.0 ≡ Some found.1) }
+        ensures within { IfSome result (λ found. found.1.0 < sockets) }
+    {
+        let happened = self.clock.happened();
         let arrivals = self.arrivals.as_slice();
         for at in self.next..arrivals.len() {
             let arrival = arrivals[at];
-            if arrival.event >= self.happened {
+            if arrival.event >= happened {
                 return None;
             }
             if (arrival.socket.0 as usize) < sockets {
@@ -217,47 +162,55 @@ impl Schedule {
     }
 
     /// The arrivals up to this one were taken.
-    pub fn take_arrival(&mut self, at: usize) {
+    pub fn take_arrival(&mut self, at: usize)
+        ensures { self.new ≡ record self.old { next = min (at + 1) 18446744073709551615 } }
+    {
         self.next = at.saturating_add(1);
     }
 
     /// Each event has happened.
-    pub fn is_over(&self) -> bool {
-        self.happened >= self.due.len()
+    pub fn is_over(&self) -> bool
+        ensures { result ≡ is_over self.now }
+    {
+        self.clock.is_over()
     }
 
-    /// Reads on from what has come with an arrival, behind the bytes that were read.
-    pub fn read(&mut self, arrival: usize, read: usize, buf: &mut [u8]) -> Got
-        requires { 0 < length buf.old }
-        ensures { IsCount result (length buf.new) }
+    /// Reads on from what has come with an arrival, behind the bytes that were read. At most one
+    /// piece is read at a time, and none that comes behind the end.
+    pub fn read(&self, arrival: usize, read: usize, buf: &mut [u8]) -> Got
+        ensures got { result ≡ arrival_got self.now arrival read (length buf.old) }
+        ensures count { 0 < length buf.old → IsCount result (length buf.old) }
+        ensures copied { Copied result (drop read (stream_at self.now arrival).bytes) buf.new }
+        ensures room { length buf.new ≡ length buf.old }
     {
-        self.advance();
-        let happened = self.happened;
-        match self.streams.get_mut(arrival) {
-            Some(stream) => stream.read(happened, read, buf),
+        match self.streams.get(arrival) {
+            Some(stream) => stream.read(self.clock.happened(), read, buf),
             None => Got::Later,
         }
     }
 
     /// Reads on from a peer's reply, behind the bytes that were read.
     pub fn read_reply(&self, peer: &Peer, read: usize, buf: &mut [u8]) -> Got
-        requires { 0 < length buf.old }
-        ensures { IsCount result (length buf.new) }
+        ensures got { result ≡ reply_got self.now.clock.mark read (length buf.old) peer.now }
+        ensures count { 0 < length buf.old → IsCount result (length buf.old) }
+        ensures copied { Copied result (drop read peer.now.reply) buf.new }
+        ensures room { length buf.new ≡ length buf.old }
     {
-        if self.marks < peer.mark {
+        if self.clock.mark() < peer.mark {
             return Got::Later;
         }
-        if read >= peer.reply.len() {
+        if peer.reply.len() <= read {
             return Got::End;
         }
         Got::Bytes(copy_front(&peer.reply.as_slice()[read..], buf))
     }
 
     /// Whether the link of an arrival is gone.
-    pub fn is_gone(&mut self, arrival: usize) -> bool {
-        self.advance();
+    pub fn is_gone(&self, arrival: usize) -> bool
+        ensures { result ≡ arrival_gone self.now arrival }
+    {
         match self.streams.get(arrival) {
-            Some(stream) => stream.gone.unwrap_or(usize::MAX) < self.happened,
+            Some(stream) => stream.is_gone(self.clock.happened()),
             None => false,
         }
     }

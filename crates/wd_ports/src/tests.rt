@@ -210,21 +210,48 @@ fn first_wrong<P: Port>(
     Ok(None)
 }
 
+/// An event of a plan, with its bytes as a text.
+#[derive(Clone, Copy, Debug, PartialEq, Eq)]
+enum Happens {
+    Accept(u32),
+    Bytes(u32, &'static str),
+    End(u32),
+    Gone(u32),
+}
+
 /// Three links come, the second at a socket that is not listened at; so the third of the plan is
-/// link 2 of the port.
-fn three_links(alloc: Global) -> Result<PortPlan, NoMemory> {
+/// link 2 of the port. The last bytes of the first come behind its end.
+const THREE_LINKS: [(u64, Happens); 9] = [
+    (0, Happens::Accept(0)),
+    (0, Happens::Bytes(1, "ab")),
+    (0, Happens::Bytes(1, "cdefg")),
+    (1, Happens::Accept(7)),
+    (1, Happens::Accept(0)),
+    (1, Happens::Bytes(3, "z")),
+    (2, Happens::End(1)),
+    (2, Happens::Bytes(1, "late")),
+    (3, Happens::Gone(1)),
+];
+
+fn event_of(alloc: Global, event: Happens) -> Result<PortEvent, NoMemory> {
+    match event {
+        Happens::Accept(socket) => Ok(PortEvent::Accept(SockNo(socket))),
+        Happens::Bytes(link, text) => {
+            let bytes = bytes(alloc, text.as_bytes())?;
+            Ok(PortEvent::Bytes(LinkNo(link), bytes))
+        }
+        Happens::End(link) => Ok(PortEvent::End(LinkNo(link))),
+        Happens::Gone(link) => Ok(PortEvent::Gone(LinkNo(link))),
+    }
+}
+
+/// The plan of these events.
+fn plan_of_events(alloc: Global, events: &[(u64, Happens)]) -> Result<PortPlan, NoMemory> {
     let mut plan = empty_plan(alloc);
-    let ab = bytes(alloc, b"ab")?;
-    let cdefg = bytes(alloc, b"cdefg")?;
-    let z = bytes(alloc, b"z")?;
-    plan.events.push((0, PortEvent::Accept(SockNo(0))))?;
-    plan.events.push((0, PortEvent::Bytes(LinkNo(1), ab)))?;
-    plan.events.push((0, PortEvent::Bytes(LinkNo(1), cdefg)))?;
-    plan.events.push((1, PortEvent::Accept(SockNo(7))))?;
-    plan.events.push((1, PortEvent::Accept(SockNo(0))))?;
-    plan.events.push((1, PortEvent::Bytes(LinkNo(3), z)))?;
-    plan.events.push((2, PortEvent::End(LinkNo(1))))?;
-    plan.events.push((3, PortEvent::Gone(LinkNo(1))))?;
+    for at in 0..events.len() {
+        let event = event_of(alloc, events[at].1)?;
+        plan.events.push((events[at].0, event))?;
+    }
     Ok(plan)
 }
 
@@ -266,7 +293,7 @@ fn try_steps(
 
 #[test]
 fn events_happen_at_their_marks(rt: HostRuntime) -> Result<(), Fail> {
-    let plan = three_links(rt.alloc())?;
+    let plan = plan_of_events(rt.alloc(), &THREE_LINKS)?;
     assert_eq!(rt; try_steps(rt.alloc(), plan, &EVENTS)?, (None, 0));
     Ok(())
 }
