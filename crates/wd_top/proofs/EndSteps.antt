@@ -1,0 +1,159 @@
+-- How a call ends, by its outcome.
+use Rattle.std.specs.Prelude.{◌≡◌, ◌⊎◌, ℕ, true, List, [], length, Option, Some, None, IfSome, refl, suc, ◌≤◌}
+use Rattle.std.proofs.Common.{sym, ap, subst, ◌∙◌, inl, inr, arith}
+use Rattle.wd_base.specs.declared.config.Config.{Config}
+use Rattle.wd_machine.specs.declared.journal.Entry.{Entry}
+use Rattle.wd_machine.specs.declared.journal.Head.TheVariants.{Whole}
+use Rattle.wd_machine.specs.declared.journal.Journal.{Journal}
+use Rattle.wd_machine.specs.Runs.{legal}
+use Rattle.wd_ports.specs.Told.{Stored}
+use Rattle.wd_top.specs.declared.outcome.Outcome.{Outcome}
+use Rattle.wd_top.specs.declared.outcome.Outcome.TheVariants as outcome
+use Rattle.wd_top.specs.Command.{command}
+use Rattle.wd_top.specs.Constant.{constant_means}
+use Rattle.wd_ports.specs.Faults.{Rose}
+use Rattle.wd_top.specs.Ended.{IsSessionEnd, IsServed, HasPort, NoPortMade, Caused, IsEmpty, Ran, Comes, status_for, IsStatus}
+use Rattle.wd_top.specs.Outcome.{status_of, Reports}
+use Rattle.wd_top.specs.Plan.{Plan, NoCommand, NoFile, NoConfig, NoScript, Serves, Plans, AtCommand}
+use Rattle.wd_top.specs.Prepare.{IsEarly, IsFileFault, IsReadPath, OnFileFault, plan_of_outcome}
+use Rattle.wd_top.specs.Talk.{EachOfSeat, IsOfSeat}
+use Rattle.wd_top.proofs.PlanUnique.{plans_unique}
+
+-- a world of nothing
+no_world : Config
+no_world = record { services = []; sockets = [] }
+
+nothing_run : legal constant_means no_world (record { head = Whole; entries = [] }) ≡ true
+unfolding no_world
+nothing_run = refl
+
+-- no entry is of another seat where there is none
+pub no_entries : (entries : List Entry) → entries ≡ [] → IsOfSeat 0 entries
+unfolding IsOfSeat
+no_entries entries e = subst (λ es. EachOfSeat 0 es) (sym e) tt
+
+early_caused : (words : List (List ℕ)) (files : Option Stored) (read_rose maker_rose : Type 0) (world : Config) (o : Outcome) → IsEarly o → IfSome files (λ s. IfSome (plan_of_outcome o) (Plans words s)) → (IsFileFault o → read_rose) → OnFileFault o (IsReadPath words files) → (o ≡ outcome.CommandLine → command words ≡ None)
+    → Caused words files read_rose maker_rose world o
+early_caused words files rr mr world outcome.Done e plan fault named none = absurd e
+early_caused words files rr mr world outcome.CommandLine e plan fault named none = none refl
+early_caused words files rr mr world (outcome.Config x) e plan fault named none = plan
+early_caused words files rr mr world (outcome.Script name) e plan fault named none = plan
+early_caused words files rr mr world (outcome.MissingFile path) e plan fault named none = plan
+early_caused words files rr mr world (outcome.FileFault path) e plan fault named none = (fault tt, named)
+early_caused words files rr mr world (outcome.NoPort seat) e plan fault named none = absurd e
+early_caused words files rr mr world (outcome.NoListen address) e plan fault named none = absurd e
+early_caused words files rr mr world outcome.NoMemory e plan fault named none = tt
+
+session_caused : (words : List (List ℕ)) (files : Option Stored) (read_rose maker_rose : Type 0) (world : Config) (ports : ℕ) (o : Outcome) → IsSessionEnd o → IsServed words files world → (NoPortMade o → (ports ≡ 0) × maker_rose)
+    → Caused words files read_rose maker_rose world o
+session_caused words files rr mr world ports outcome.Done e plan none = plan
+session_caused words files rr mr world ports outcome.CommandLine e plan none = absurd e
+session_caused words files rr mr world ports (outcome.Config x) e plan none = absurd e
+session_caused words files rr mr world ports (outcome.Script name) e plan none = absurd e
+session_caused words files rr mr world ports (outcome.MissingFile path) e plan none = absurd e
+session_caused words files rr mr world ports (outcome.FileFault path) e plan none = absurd e
+session_caused words files rr mr world ports (outcome.NoPort seat) e plan none = (e, plan, (none tt).1)
+session_caused words files rr mr world ports (outcome.NoListen address) e plan none = plan
+session_caused words files rr mr world ports outcome.NoMemory e plan none = tt
+
+session_early : (empty served : Type 0) (o : Outcome) → IsSessionEnd o → served → IsEarly o → empty ⊎ ((o ≡ outcome.NoMemory) × served)
+session_early empty served outcome.Done e plan h = absurd h
+session_early empty served outcome.CommandLine e plan h = absurd e
+session_early empty served (outcome.Config x) e plan h = absurd e
+session_early empty served (outcome.Script name) e plan h = absurd e
+session_early empty served (outcome.MissingFile path) e plan h = absurd e
+session_early empty served (outcome.FileFault path) e plan h = absurd e
+session_early empty served (outcome.NoPort seat) e plan h = absurd h
+session_early empty served (outcome.NoListen address) e plan h = absurd h
+session_early empty served outcome.NoMemory e plan h = inr (refl, plan)
+
+early_no_port : (o : Outcome) → IsEarly o → HasPort o → ⊥
+early_no_port outcome.Done e h = e
+early_no_port outcome.CommandLine e h = h
+early_no_port (outcome.Config x) e h = h
+early_no_port (outcome.Script name) e h = h
+early_no_port (outcome.MissingFile path) e h = h
+early_no_port (outcome.FileFault path) e h = h
+early_no_port (outcome.NoPort seat) e h = h
+early_no_port (outcome.NoListen address) e h = e
+early_no_port outcome.NoMemory e h = h
+
+-- an outcome without a session
+pub early_comes : (words : List (List ℕ)) (files : Option Stored) (read_rose maker_rose : Type 0) (o : Outcome) (journal : Journal) (ports : ℕ) (at_ports : Config → Type 0) → IsEarly o
+    → IfSome files (λ s. IfSome (plan_of_outcome o) (Plans words s)) → (IsFileFault o → read_rose) → OnFileFault o (IsReadPath words files) → (o ≡ outcome.CommandLine → command words ≡ None) → journal ≡ record { head = Whole; entries = [] } → ports ≡ 0 → ((world : Config) → at_ports world)
+    → Comes words files read_rose maker_rose o journal ports at_ports
+early_comes words files rr mr o journal ports at_ports early plan fault named none empty no_ports at = record {
+  world = no_world;
+  caused = early_caused words files rr mr no_world o early plan fault named none;
+  early = λ e. inl (ap (λ j. j.entries) empty, no_ports);
+  whole = ap (λ j. j.head) empty;
+  run = ap (λ j. legal constant_means no_world j) empty ∙ nothing_run;
+  seat = no_entries journal.entries (ap (λ j. j.entries) empty);
+  unused = λ h. ap (λ j. j.entries) empty;
+  over = λ is. absurd (subst IsEarly is early);
+  few = omega (arith, no_ports);
+  one = λ h. absurd (early_no_port o early h);
+  at = at no_world;
+}
+
+-- the outcome of a session
+pub session_comes : (words : List (List ℕ)) (files : Option Stored) (read_rose maker_rose : Type 0) (world : Config) (o : Outcome) (journal : Journal) (ports : ℕ) (at_ports : Config → Type 0) → IsServed words files world → Ran world maker_rose o journal ports (at_ports world)
+    → Comes words files read_rose maker_rose o journal ports at_ports
+session_comes words files rr mr world o journal ports at_ports plan ran = record {
+  world = world;
+  caused = session_caused words files rr mr world ports o ran.end plan ran.none;
+  early = session_early (IsEmpty journal ports) (IsServed words files world) o ran.end plan;
+  whole = ran.whole;
+  run = ran.run;
+  seat = ran.seat;
+  unused = ran.unused;
+  over = ran.over;
+  few = ran.few;
+  one = ran.one;
+  at = ran.at;
+}
+
+no_command : (words : List (List ℕ)) (s : Stored) → command words ≡ None → Plans words s NoCommand
+unfolding Plans
+no_command words s e = subst (λ c. AtCommand s c NoCommand) (sym e) refl
+
+-- the statuses that are left where a read failed, the sink failed, or memory was wanting
+abbrev Else : Type 0 → Type 0 → ℕ → Type 0
+Else read_rose sink_rose status = ((status ≡ 5) × read_rose) ⊎ (((status ≡ 4) × sink_rose) ⊎ (status ≡ 9))
+
+by_plan : (words : List (List ℕ)) (s : Stored) (rr sr : Type 0) (plan asked : Plan) (status : ℕ) → Plans words s asked → Plans words s plan → status_for plan status → status_for asked status ⊎ Else rr sr status
+by_plan words s rr sr plan asked status asks is h = inl (subst (λ p. status_for p status) (plans_unique words s plan asked is asks) h)
+
+by_outcome : (words : List (List ℕ)) (s : Stored) (rr mr sr : Type 0) (world : Config) (o : Outcome) (asked : Plan) (status : ℕ) → Caused words (Some s) rr mr world o → Plans words s asked → status ≡ status_of o → status_for asked status ⊎ Else rr sr status
+by_outcome words s rr mr sr world outcome.Done asked status caused asks e = by_plan words s rr sr (Serves world) asked status asks caused (inl e)
+by_outcome words s rr mr sr world outcome.CommandLine asked status caused asks e = by_plan words s rr sr NoCommand asked status asks (no_command words s caused) e
+by_outcome words s rr mr sr world (outcome.Config x) asked status caused asks e = by_plan words s rr sr (NoConfig x) asked status asks caused e
+by_outcome words s rr mr sr world (outcome.Script name) asked status caused asks e = by_plan words s rr sr (NoScript name) asked status asks caused e
+by_outcome words s rr mr sr world (outcome.MissingFile path) asked status caused asks e = by_plan words s rr sr (NoFile path) asked status asks caused e
+by_outcome words s rr mr sr world (outcome.FileFault path) asked status caused asks e = inr (inl (e, caused.0))
+by_outcome words s rr mr sr world (outcome.NoPort seat) asked status caused asks e = by_plan words s rr sr (Serves world) asked status asks caused.1 (inr e)
+by_outcome words s rr mr sr world (outcome.NoListen address) asked status caused asks e = by_plan words s rr sr (Serves world) asked status asks caused (inr e)
+by_outcome words s rr mr sr world outcome.NoMemory asked status caused asks e = inr (inr (inr e))
+
+-- the status is the one that the words and the files ask for
+pub status_is : (words : List (List ℕ)) (files : Option Stored) (rr mr : Type 0) (held held' : Option (List ℕ)) (count count' status : ℕ) (o : Outcome) (journal : Journal) (ports : ℕ) (at_ports : Config → Type 0)
+    → Comes words files rr mr o journal ports at_ports → Reports o status held held' count count' → IfSome files (λ s. IsStatus words s rr (Rose count count') status)
+status_is words None rr mr held held' count count' status o journal ports at_ports comes reports = tt
+status_is words (Some s) rr mr held held' count count' status o journal ports at_ports comes reports = λ asked asks.
+    elim reports.which as (λ w. status_for asked status ⊎ Else rr (Rose count count') status) [
+      | inl h ↦ by_outcome words s rr mr (Rose count count') comes.world o asked status comes.caused asks h.0
+      | inr (inl h) ↦ inr (inr (inl h))
+      | inr (inr h) ↦ inr (inr (inr h))
+    ]
+
+-- where the words are no command line
+pub status_without : (held held' : Option (List ℕ)) (count count' status : ℕ) (o : Outcome) → o ≡ outcome.CommandLine → Reports o status held held' count count' → (status ≡ 1) ⊎ (((status ≡ 4) × Rose count count') ⊎ (status ≡ 9))
+status_without held held' count count' status o e reports =
+    elim reports.which as (λ w. (status ≡ 1) ⊎ (((status ≡ 4) × Rose count count') ⊎ (status ≡ 9))) [
+      | inl h ↦ inl (h.0 ∙ ap status_of e)
+      | inr h ↦ inr h
+    ]
+
+-- an empty list has no item
+pub no_item : {X : Type 0} (xs : List X) (k : ℕ) → xs ≡ [] → suc k ≤ length xs → ⊥
+no_item xs k e h = let none : length xs ≡ 0 = ap length e in omega arith

@@ -1,0 +1,81 @@
+-- The journal that a board keeps, beside the machine's state.
+use Rattle.std.specs.Prelude.{◌≡◌, ℕ, ◌+◌, Bool, true, false, List, [], ◌∷◌, ◌++◌, length, Option, Some, None, Result, Ok, Err}
+use Rattle.wd_base.specs.declared.config.Config.{Config}
+use Rattle.wd_base.specs.declared.http.Reply.{Reply}
+use Rattle.wd_base.specs.declared.ids.NoMemory.{NoMemory}
+use Rattle.wd_base.specs.declared.ids.Req.{Req}
+use Rattle.wd_base.specs.declared.ids.Seat.{Seat}
+use Rattle.wd_machine.specs.declared.journal.Entry.{Entry}
+use Rattle.wd_machine.specs.declared.journal.Entry.TheVariants.{Turn}
+use Rattle.wd_machine.specs.declared.turn.Out.{Out}
+use Rattle.wd_machine.specs.declared.journal.Head.TheVariants.{Whole}
+use Rattle.wd_machine.specs.declared.state.RequestState.{RequestState}
+use Rattle.wd_machine.specs.declared.state.State.{State}
+use Rattle.wd_machine.specs.declared.state.WorkerState.{WorkerState}
+use Rattle.wd_machine.specs.Meaning.{Meaning}
+use Rattle.wd_machine.specs.Runs.{legal, after}
+use Rattle.wd_top.specs.declared.board.Answer.{Answer}
+use Rattle.wd_top.specs.Talk.{IsNumbered, arrival_count, IsOfSeat}
+
+-- the board's one seat
+abbrev pub the_seat : Seat
+the_seat = record { 0 = 0 }
+
+-- the entries are a legal journal of seat 0, its requests numbered in order
+pub record IsRun {I : Type 0} (m : Meaning I) (world : Config) (entries : List Entry) : Type 0 where
+  pub allowed : legal m world (record { head = Whole; entries = entries }) ≡ true
+  pub numbered : IsNumbered entries
+  pub seat : IsOfSeat 0 entries
+
+-- the requests are numbered from n + 1 on, in order
+abbrev pub RowsFrom : ℕ → List RequestState → Type 0
+RowsFrom n [] = Unit {0}
+RowsFrom n (r ∷ rs) = (r.req.0 ≡ n + 1) × RowsFrom (n + 1) rs
+
+-- no Worker has a turn, and nothing waits for one
+abbrev pub AreIdle : {I : Type 0} → List (WorkerState I) → Type 0
+AreIdle [] = Unit {0}
+AreIdle (w ∷ ws) = (w.holder ≡ None) × (w.waiters ≡ []) × AreIdle ws
+
+-- each request has ended
+abbrev pub AreEnded : List RequestState → Type 0
+AreEnded [] = Unit {0}
+AreEnded (r ∷ rs) = (r.ended ≡ true) × AreEnded rs
+
+-- a request that is there has ended
+abbrev pub has_ended : Option RequestState → Bool
+has_ended None = false
+has_ended (Some r) = r.ended
+
+-- each request of the entries has ended
+abbrev pub IsOver : {I : Type 0} → Meaning I → Config → List Entry → Type 0
+IsOver m world entries = AreEnded (after m world entries).requests
+
+-- so many requests have arrived, no turn runs or waits, and nothing is to be freed
+pub record Rests {I : Type 0} (s : State I) (n : ℕ) : Type 0 where
+  pub rows : RowsFrom 0 s.requests
+  pub count : length s.requests ≡ n
+  pub running : s.running ≡ []
+  pub due : s.due ≡ []
+  pub idle : AreIdle s.workers
+
+-- the state is that after the entries, and at rest
+pub record Stands {I : Type 0} (m : Meaning I) (world : Config) (s : State I) (entries : List Entry) (n : ℕ) : Type 0 where
+  pub state : s ≡ after m world entries
+  pub rests : Rests s n
+  pub count : n ≡ arrival_count entries
+
+-- the reply of a request that was answered
+abbrev pub reply_in : Result Answer NoMemory → Result (Option Reply) NoMemory
+reply_in (Ok answer) = Ok answer.reply
+reply_in (Err e) = Err e
+
+-- where the request has ended, and all before it, each has
+abbrev pub EndsToo : Result Answer NoMemory → List RequestState → List RequestState → Type 0
+EndsToo (Ok answer) old new = answer.ended ≡ true → AreEnded old → AreEnded new
+EndsToo (Err e) old new = Unit {0}
+
+-- the turn's `Out` goes behind the entries, and its reply is given; where no turn ran, nothing
+abbrev pub Ends : Req → Option Out → List Entry → List Entry → Option Reply → Type 0
+Ends q None old new reply = (new ≡ old) × (reply ≡ None)
+Ends q (Some out) old new reply = (new ≡ old ++ Turn the_seat q out ∷ []) × (reply ≡ out.reply)

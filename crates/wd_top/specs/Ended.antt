@@ -1,0 +1,192 @@
+-- How a call ends: what holds of its ports, its journal and its status.
+use Rattle.std.specs.Prelude.{◌≡◌, ◌⊎◌, ℕ, ◌<◌, ◌≤◌, take, true, List, [], length, Option, Some, None, Result, Ok, Err, IfSome, slice_get}
+use Rattle.wd_base.specs.declared.config.Addr.{Addr}
+use Rattle.wd_base.specs.declared.config.Config.{Config}
+use Rattle.wd_base.specs.declared.ids.LinkNo.{LinkNo}
+use Rattle.wd_machine.specs.declared.journal.Entry.{Entry}
+use Rattle.wd_machine.specs.declared.journal.Head.TheVariants.{Whole}
+use Rattle.wd_machine.specs.declared.journal.Journal.{Journal}
+use Rattle.wd_machine.specs.Runs.{legal}
+use Rattle.wd_ports.specs.declared.told.Faults.{Faults}
+use Rattle.wd_ports.specs.Faults.{Listen, part}
+use Rattle.wd_ports.specs.Told.{Told, Stored}
+use Rattle.wd_top.specs.declared.outcome.Outcome.{Outcome}
+use Rattle.wd_top.specs.declared.outcome.Outcome.TheVariants as outcome
+use Rattle.wd_top.specs.Board.{IsOver}
+use Rattle.wd_top.specs.Command.{command}
+use Rattle.wd_top.specs.Constant.{constant_means}
+use Rattle.wd_top.specs.Outcome.{Reports}
+use Rattle.wd_top.specs.Plan.{Plan, NoCommand, NoFile, NoConfig, NoScript, Serves, Plans}
+use Rattle.wd_top.specs.Prepare.{IsEarly, IsReadPath}
+use Rattle.wd_top.specs.Session.{Session, Done}
+use Rattle.wd_top.specs.Table.{addresses}
+use Rattle.wd_top.specs.Talk.{IsOfSeat}
+
+-- the port could not listen at this address, or memory was wanting
+abbrev pub IsListenEnd : Addr → Outcome → Type 0
+IsListenEnd address o = (o ≡ outcome.NoListen address) ⊎ (o ≡ outcome.NoMemory)
+
+-- the first of the addresses at which the port does not listen
+abbrev pub next_address : List Addr → Told → Option Addr
+next_address all t = slice_get all (length t.sockets)
+
+-- why a port does not listen at all of the addresses
+abbrev pub ListenEnd : List Addr → Told → Faults → Outcome → Type 0
+ListenEnd all t f outcome.Done = ⊥
+ListenEnd all t f outcome.CommandLine = ⊥
+ListenEnd all t f (outcome.Config fault) = ⊥
+ListenEnd all t f (outcome.Script name) = ⊥
+ListenEnd all t f (outcome.MissingFile path) = ⊥
+ListenEnd all t f (outcome.FileFault path) = ⊥
+ListenEnd all t f (outcome.NoPort seat) = ⊥
+ListenEnd all t f (outcome.NoListen address) = (0 < part Listen f) × (next_address all t ≡ Some address)
+ListenEnd all t f outcome.NoMemory = Unit {0}
+
+-- the list is the front of another one
+abbrev pub IsFront : List Addr → List Addr → Type 0
+IsFront xs all = xs ≡ take (length xs) all
+
+-- the port listens at all of the addresses, or at some of them and no more; nothing else of it has changed
+abbrev pub Listens : List Addr → Told → Told → Faults → Result (Unit {0}) Outcome → Type 0
+Listens all old new f (Ok x) = new ≡ record old { sockets = all }
+Listens all old new f (Err o) = (new ≡ record old { sockets = new.sockets }) × ListenEnd all new f o
+
+-- the port answered `Closed`, it listens at each socket of the world, and its links are done
+pub record IsDone (world : Config) (t : Told) (gone : LinkNo → Type 0) (entries : List Entry) : Type 0 where
+  pub closed : t.closed ≡ true
+  pub sockets : t.sockets ≡ addresses world.sockets
+  pub links : IfSome t.links (Done world.sockets gone entries)
+
+-- what each outcome says of a port, whose count began at 0
+abbrev pub OutcomeHolds : Config → Outcome → Told → (LinkNo → Type 0) → Faults → List Entry → Type 0
+OutcomeHolds world outcome.Done t gone f entries = IsDone world t gone entries
+OutcomeHolds world outcome.CommandLine t gone f entries = ⊥
+OutcomeHolds world (outcome.Config fault) t gone f entries = ⊥
+OutcomeHolds world (outcome.Script name) t gone f entries = ⊥
+OutcomeHolds world (outcome.MissingFile path) t gone f entries = ⊥
+OutcomeHolds world (outcome.FileFault path) t gone f entries = ⊥
+OutcomeHolds world (outcome.NoPort seat) t gone f entries = ⊥
+OutcomeHolds world (outcome.NoListen address) t gone f entries = (0 < part Listen f) × (next_address (addresses world.sockets) t ≡ Some address)
+OutcomeHolds world outcome.NoMemory t gone f entries = Unit {0}
+
+-- what holds of a port: at every outcome it listens at the first of the world's sockets and at nothing else, and its links carry its part of the journal
+pub record Holds (world : Config) (o : Outcome) (t : Told) (gone : LinkNo → Type 0) (f : Faults) (entries : List Entry) : Type 0 where
+  pub sockets : IsFront t.sockets (addresses world.sockets)
+  pub session : IfSome t.links (Session world.sockets entries)
+  pub outcome : OutcomeHolds world o t gone f entries
+
+-- how a session may come out
+abbrev pub IsSessionEnd : Outcome → Type 0
+IsSessionEnd outcome.Done = Unit {0}
+IsSessionEnd outcome.CommandLine = ⊥
+IsSessionEnd (outcome.Config fault) = ⊥
+IsSessionEnd (outcome.Script name) = ⊥
+IsSessionEnd (outcome.MissingFile path) = ⊥
+IsSessionEnd (outcome.FileFault path) = ⊥
+IsSessionEnd (outcome.NoPort seat) = seat.0 ≡ 0
+IsSessionEnd (outcome.NoListen address) = Unit {0}
+IsSessionEnd outcome.NoMemory = Unit {0}
+
+-- a port was made, and is handed out
+abbrev pub HasPort : Outcome → Type 0
+HasPort outcome.Done = Unit {0}
+HasPort outcome.CommandLine = ⊥
+HasPort (outcome.Config fault) = ⊥
+HasPort (outcome.Script name) = ⊥
+HasPort (outcome.MissingFile path) = ⊥
+HasPort (outcome.FileFault path) = ⊥
+HasPort (outcome.NoPort seat) = ⊥
+HasPort (outcome.NoListen address) = Unit {0}
+HasPort outcome.NoMemory = ⊥
+
+-- no port could be made, or it could not listen
+abbrev pub IsPortFault : Outcome → Type 0
+IsPortFault outcome.Done = ⊥
+IsPortFault outcome.CommandLine = ⊥
+IsPortFault (outcome.Config fault) = ⊥
+IsPortFault (outcome.Script name) = ⊥
+IsPortFault (outcome.MissingFile path) = ⊥
+IsPortFault (outcome.FileFault path) = ⊥
+IsPortFault (outcome.NoPort seat) = Unit {0}
+IsPortFault (outcome.NoListen address) = Unit {0}
+IsPortFault outcome.NoMemory = ⊥
+
+-- no port could be made
+abbrev pub NoPortMade : Outcome → Type 0
+NoPortMade outcome.Done = ⊥
+NoPortMade outcome.CommandLine = ⊥
+NoPortMade (outcome.Config fault) = ⊥
+NoPortMade (outcome.Script name) = ⊥
+NoPortMade (outcome.MissingFile path) = ⊥
+NoPortMade (outcome.FileFault path) = ⊥
+NoPortMade (outcome.NoPort seat) = Unit {0}
+NoPortMade (outcome.NoListen address) = ⊥
+NoPortMade outcome.NoMemory = ⊥
+
+-- the words and the files ask to serve this world
+abbrev pub IsServed : List (List ℕ) → Option Stored → Config → Type 0
+IsServed words files world = IfSome files (λ s. Plans words s (Serves world))
+
+-- the cause of each outcome
+abbrev pub Caused : List (List ℕ) → Option Stored → Type 0 → Type 0 → Config → Outcome → Type 0
+Caused words files read_rose maker_rose world outcome.Done = IsServed words files world
+Caused words files read_rose maker_rose world outcome.CommandLine = command words ≡ None
+Caused words files read_rose maker_rose world (outcome.Config fault) = IfSome files (λ s. Plans words s (NoConfig fault))
+Caused words files read_rose maker_rose world (outcome.Script name) = IfSome files (λ s. Plans words s (NoScript name))
+Caused words files read_rose maker_rose world (outcome.MissingFile path) = IfSome files (λ s. Plans words s (NoFile path))
+Caused words files read_rose maker_rose world (outcome.FileFault path) = read_rose × IsReadPath words files path
+Caused words files read_rose maker_rose world (outcome.NoPort seat) = (seat.0 ≡ 0) × IsServed words files world × maker_rose
+Caused words files read_rose maker_rose world (outcome.NoListen address) = IsServed words files world
+Caused words files read_rose maker_rose world outcome.NoMemory = Unit {0}
+
+-- no request has arrived, and no port was made
+abbrev pub IsEmpty : Journal → ℕ → Type 0
+IsEmpty journal ports = (journal.entries ≡ []) × (ports ≡ 0)
+
+-- What a session leaves: a whole journal of seat 0 that is a legal run of the world, one port where one was made, and what
+-- holds of it. Where a port could not be had, no request has arrived, and at the end each has ended.
+pub record Ran (world : Config) (maker_rose : Type 0) (o : Outcome) (journal : Journal) (ports : ℕ) (at_ports : Type 0) : Type 0 where
+  pub end : IsSessionEnd o
+  pub whole : journal.head ≡ Whole
+  pub run : legal constant_means world journal ≡ true
+  pub seat : IsOfSeat 0 journal.entries
+  pub unused : IsPortFault o → journal.entries ≡ []
+  pub over : o ≡ outcome.Done → IsOver constant_means world journal.entries
+  pub few : ports ≤ 1
+  pub one : HasPort o → ports ≡ 1
+  pub none : NoPortMade o → (ports ≡ 0) × maker_rose
+  pub at : at_ports
+
+-- An outcome with its cause, and what it leaves: a whole journal of seat 0 that is a legal run of the world, one port where
+-- one was made, and what holds of it. An outcome without a session leaves nothing, and where a port could not be had no
+-- request has arrived; where the session is done each has ended. At want of memory the world is the one that is asked for, where there was a session.
+pub record Comes (words : List (List ℕ)) (files : Option Stored) (read_rose maker_rose : Type 0) (o : Outcome) (journal : Journal) (ports : ℕ) (at_ports : Config → Type 0) : Type 0 where
+  pub world : Config
+  pub caused : Caused words files read_rose maker_rose world o
+  pub early : IsEarly o → IsEmpty journal ports ⊎ ((o ≡ outcome.NoMemory) × IsServed words files world)
+  pub whole : journal.head ≡ Whole
+  pub run : legal constant_means world journal ≡ true
+  pub seat : IsOfSeat 0 journal.entries
+  pub unused : IsPortFault o → journal.entries ≡ []
+  pub over : o ≡ outcome.Done → IsOver constant_means world journal.entries
+  pub few : ports ≤ 1
+  pub one : HasPort o → ports ≡ 1
+  pub at : at_ports world
+
+-- how a call ended: its outcome, and what was printed of it
+pub record Ends (words : List (List ℕ)) (files : Option Stored) (read_rose maker_rose : Type 0) (held held' : Option (List ℕ)) (count count' status : ℕ) (journal : Journal) (ports : ℕ) (at_ports : Outcome → Config → Type 0) : Type 0 where
+  pub outcome : Outcome
+  pub comes : Comes words files read_rose maker_rose outcome journal ports (at_ports outcome)
+  pub reports : Reports outcome status held held' count count'
+
+-- the statuses that a plan allows, where no read and no print failed and memory was there: just one, but for a session
+abbrev pub status_for : Plan → ℕ → Type 0
+status_for NoCommand status = status ≡ 1
+status_for (NoFile path) status = status ≡ 5
+status_for (NoConfig fault) status = status ≡ 2
+status_for (NoScript name) status = status ≡ 3
+status_for (Serves world) status = (status ≡ 0) ⊎ (status ≡ 7)
+
+-- each status comes where its cause is, but for 5 where a read failed, 4 where the sink failed, and 9
+abbrev pub IsStatus : List (List ℕ) → Stored → Type 0 → Type 0 → ℕ → Type 0
+IsStatus words files read_rose sink_rose status = (plan : Plan) → Plans words files plan → status_for plan status ⊎ (((status ≡ 5) × read_rose) ⊎ (((status ≡ 4) × sink_rose) ⊎ (status ≡ 9)))

@@ -1,0 +1,302 @@
+ghost use Rattle.std.specs.Prelude.{◌≡◌, ℕ, ◌+◌, ◌<◌, [], ◌∷◌, ◌++◌, length, true, false, None, Some, IfOk, OnOk, OnErr, IsTrue, is_some};
+ghost use Rattle.std.specs.List.{position_from};
+ghost use Rattle.wd_base.specs.declared.objects.Origin.TheVariants.{Outside};
+ghost use Rattle.wd_graph.specs.Links.{first_unknown};
+ghost use Rattle.wd_graph.specs.Names.{service_of, is_public};
+ghost use Rattle.wd_machine.specs.declared.journal.Entry.{Entry as EntryIs};
+ghost use Rattle.wd_machine.specs.declared.journal.Head.{Head as HeadIs};
+ghost use Rattle.wd_machine.specs.First.{AreFirst};
+ghost use Rattle.wd_machine.specs.Found.{ArePlaces, is_worker, request_of, worker_for};
+ghost use Rattle.wd_machine.specs.Runs.{legal};
+ghost use Rattle.wd_machine.specs.Steps.{arrived, begun, turned, turn_out};
+ghost use Rattle.wd_top.specs.Board.{the_seat, IsRun, Stands, Ends, IsOver, EndsToo, has_ended, reply_in};
+ghost use Rattle.wd_top.specs.Session.{service_at};
+ghost use Rattle.wd_top.specs.Steps.{Answers};
+
+use std::alloc::Global;
+use std::marker::Model;
+use wd_base::{
+    Bytes, LinkNo, NoMemory, Origin, Reply, Req, ReqData, Seat, SockNo, Sockets, TryClone,
+};
+use wd_graph::World;
+use wd_machine::{Entries, Entry, Head, Isolate, Journal, Machine, Places};
+
+/// How many subrequests a request from outside may make.
+const ALLOWANCE: u32 = 1000;
+
+/// The journal of a server with one seat, and the machine that it drives.
+///
+/// Contracts see it as its world and its entries, which are at any time a legal journal. After want
+/// of memory it takes no further request.
+///
+/// The requests are numbered 1, 2, 3 and so on. The newest is found at once, at the last place of
+/// the machine's table; neither the table nor the journal is searched.
+#[derive(Drop)]
+pub struct Board<I: Isolate> {
+    world: World,
+    machine: Machine<I>,
+    entries: Entries,
+    /// How many requests have arrived.
+    count: u64,
+    /// A request was left that has not ended.
+    lingers: bool,
+    /// Memory ran out, so that the machine and the entries may differ.
+    stopped: bool,
+}
+
+/// What a request came to: its reply, where its turn gave one, and whether it has ended.
+#[derive(Drop)]
+struct Answer {
+    reply: Option<Reply>,
+    ended: bool,
+}
+
+impl<I: Isolate> Model for Board<I> {
+    ghost use Rattle.std.specs.Prelude.{◌≡◌, List, false, None};
+    ghost use Rattle.wd_base.specs.declared.config.Config.{Config};
+    ghost use Rattle.wd_graph.specs.Links.{first_unknown};
+    ghost use Rattle.wd_machine.specs.declared.journal.Entry.{Entry};
+    ghost use Rattle.wd_top.specs.Board.{AreEnded, IsRun, Stands};
+
+    ghost Value = { Config × List Entry };
+
+    ghost view = { λ b. (b.world, b.entries) };
+
+    ghost invariant = { λ b. IsRun I.means b.world b.entries × (first_unknown b.world ≡ None) × (b.stopped ≡ false → Stands I.means b.world b.machine b.entries b.count) × (b.stopped ≡ false → b.lingers ≡ false → AreEnded b.machine.requests) };
+}
+
+/// The name of the service that answers at a socket.
+fn service_of(alloc: Global, world: &World, socket: SockNo) -> Result<Bytes, NoMemory>
+    requires { socket.0 < length world.now.sockets }
+    ensures { IfOk result (λ name. name ≡ service_at world.now.sockets socket) }
+{
+    world.sockets().as_slice()[socket.0 as usize]
+        .service
+        .try_clone(alloc)
+}
+
+/// A request arrives over a link of seat 0; `worker` is the place of the service's Worker.
+fn arrive<I>(
+    alloc: Global,
+    machine: &mut Machine<I>,
+    entries: &mut Entries,
+    worker: Option<usize>,
+    req: Req,
+    service: &Bytes,
+    link: LinkNo,
+    request: ReqData,
+) -> Result<(), NoMemory>
+    requires { position_from (is_worker service.now) 0 machine.old.workers ≡ worker }
+    ensures state { OnOk result (machine.new ≡ arrived machine.old the_seat req service.now (Outside link) 1000 request) }
+    ensures entries { OnOk result (entries.new ≡ entries.old ++ EntryIs.Arrive the_seat req service.now (Outside link) 1000 request ∷ []) }
+    ensures err { OnErr result (entries.new ≡ entries.old) }
+{
+    let entry = Entry::Arrive {
+        seat: Seat(0),
+        req,
+        service: service.try_clone(alloc)?,
+        origin: Origin::Outside(link),
+        allow: ALLOWANCE,
+        request: request.try_clone(alloc)?,
+    };
+    let service = service.try_clone(alloc)?;
+    machine.arrive(
+        worker,
+        Seat(0),
+        req,
+        service,
+        Origin::Outside(link),
+        ALLOWANCE,
+        request,
+    )?;
+    entries.push(entry)
+}
+
+/// The turn of a request begins.
+fn begin<I: Isolate>(
+    machine: &mut Machine<I>,
+    entries: &mut Entries,
+    places: Places,
+) -> Result<(), NoMemory>
+    requires { ArePlaces machine.old.workers machine.old.requests places }
+    ensures state { OnOk result (machine.new ≡ begun I.means machine.old the_seat places.req) }
+    ensures entries { OnOk result (entries.new ≡ entries.old ++ EntryIs.Begin the_seat places.req ∷ []) }
+    ensures err { OnErr result (entries.new ≡ entries.old) }
+{
+    machine.begin(places, Seat(0))?;
+    entries.push(Entry::Begin {
+        seat: Seat(0),
+        req: places.req,
+    })
+}
+
+/// The turn of a request ends. It gives the request's reply, where the turn gave one.
+fn finish<I: Isolate>(
+    alloc: Global,
+    machine: &mut Machine<I>,
+    entries: &mut Entries,
+    places: Places,
+) -> Result<Option<Reply>, NoMemory>
+    requires { ArePlaces machine.old.workers machine.old.requests places }
+    ensures state { OnOk result (machine.new ≡ turned machine.old the_seat places.req) }
+    ensures entries { IfOk result (λ reply. Ends places.req (turn_out (request_of places.req.0 machine.old.requests) (worker_for (request_of places.req.0 machine.old.requests) machine.old.workers)) entries.old entries.new reply) }
+    ensures err { OnErr result (entries.new ≡ entries.old) }
+{
+    let Some(out) = machine.turn(places, Seat(0))? else {
+        return Ok(None);
+    };
+    let reply = out.reply.try_clone(alloc)?;
+    entries.push(Entry::Turn {
+        seat: Seat(0),
+        req: places.req,
+        out,
+    })?;
+    Ok(reply)
+}
+
+/// Whether a request has ended.
+fn has_ended<I>(machine: &Machine<I>, places: Places) -> bool
+    requires { ArePlaces machine.now.workers machine.now.requests places }
+    ensures { result ≡ has_ended (request_of places.req.0 machine.now.requests) }
+{
+    match machine.request(places) {
+        Some(row) => row.ended,
+        None => false,
+    }
+}
+
+/// A request, from its arrival to the end of its turn. A service that is no Worker gives no reply.
+fn exchange<I: Isolate>(
+    alloc: Global,
+    world: &World,
+    machine: &mut Machine<I>,
+    entries: &mut Entries,
+    count: u64,
+    link: LinkNo,
+    service: &Bytes,
+    request: ReqData,
+) -> Result<Answer, NoMemory>
+    requires run { IsRun I.means world.now entries.old }
+    requires stands { Stands I.means world.now machine.old entries.old count }
+    requires known { is_some (service_of service.now world.now.services) ≡ true }
+    requires public { is_public world.now service.now ≡ true }
+    requires room { count + 1 < 18446744073709551616 }
+    ensures answers { Answers link service.now request entries.old entries.new (reply_in result) }
+    ensures run { IsRun I.means world.now entries.new }
+    ensures stands { OnOk result (Stands I.means world.now machine.new entries.new (count + 1)) }
+    ensures ended { EndsToo result machine.old.requests machine.new.requests }
+{
+    let req = Req(count + 1);
+    let worker = machine.worker_place(service.as_slice());
+    arrive(alloc, machine, entries, worker, req, service, link, request)?;
+    let Some(place) = worker else {
+        return Ok(Answer {
+            reply: None,
+            ended: false,
+        });
+    };
+    let places = Places {
+        req,
+        row: Some(count as usize),
+        worker: Some(place),
+    };
+    begin(machine, entries, places)?;
+    let reply = finish(alloc, machine, entries, places)?;
+    let ended = has_ended(machine, places);
+    Ok(Answer { reply, ended })
+}
+
+impl<I: Isolate + Drop> Board<I> {
+    /// An empty journal. `isolates` has the first isolate of each Worker of the world, in order,
+    /// and every name in the world is that of a service.
+    pub fn new(alloc: Global, world: World, isolates: Vec<I>) -> Result<Board<I>, NoMemory>
+        requires first { AreFirst I.means world isolates.items }
+        requires known { first_unknown world ≡ None }
+        ensures { IfOk result (λ board. board ≡ (world, [])) }
+    {
+        let machine = Machine::new(alloc, &world, isolates)?;
+        Ok(Board {
+            world,
+            machine,
+            entries: Entries::new(alloc),
+            count: 0,
+            lingers: false,
+            stopped: false,
+        })
+    }
+
+    /// The journal. It takes no memory.
+    pub fn into_journal(self) -> Journal
+        ensures entries { result.entries ≡ self.1 }
+        ensures head { result.head ≡ HeadIs.Whole }
+        ensures legal { IsTrue (legal I.means self.0 result) }
+        ensures run { IsRun I.means self.0 self.1 }
+    {
+        let Board { entries, .. } = self;
+        Journal {
+            head: Head::Whole,
+            entries,
+        }
+    }
+}
+
+impl<I: Isolate> Board<I> {
+    /// The entries are at any time a legal journal of seat 0, with its requests numbered in order.
+    pub fn is_run(&self)
+        ensures { IsRun I.means self.now.0 self.now.1 }
+    {
+        let _ = &self.entries;
+    }
+
+    /// Whether each request that arrived has ended. It is false after want of memory.
+    #[tactic(auto, using(crate::proofs::BoardSteps::over_after))]
+    pub fn is_over(&self) -> bool
+        ensures { IsTrue result → IsOver I.means self.now.0 self.now.1 }
+    {
+        !self.stopped && !self.lingers
+    }
+
+    /// The sockets of the world, in order.
+    pub fn sockets(&self) -> &Sockets
+        ensures { result.now ≡ self.now.0.sockets }
+    {
+        self.world.sockets()
+    }
+
+    /// A request over a link that came at a socket, from its arrival to the end of its turn. It
+    /// gives the request's reply as it stands in the journal, and None where the request has none.
+    #[tactic(auto, using(crate::proofs::BoardSteps::unasked, crate::proofs::BoardSteps::service_known, crate::proofs::BoardSteps::service_public))]
+    pub fn answer(
+        &mut self,
+        alloc: Global,
+        link: LinkNo,
+        socket: SockNo,
+        request: ReqData,
+    ) -> Result<Option<Reply>, NoMemory>
+        requires { socket.0 < length self.old.0.sockets }
+        ensures answers { Answers link (service_at self.old.0.sockets socket) request self.old.1 self.new.1 result }
+        ensures world { self.new.0 ≡ self.old.0 }
+    {
+        if self.stopped || self.count == u64::MAX {
+            return Err(NoMemory);
+        }
+        let Ok(service) = service_of(alloc, &self.world, socket) else {
+            return Err(NoMemory);
+        };
+        self.stopped = true;
+        let answer = exchange(
+            alloc,
+            &self.world,
+            &mut self.machine,
+            &mut self.entries,
+            self.count,
+            link,
+            &service,
+            request,
+        )?;
+        self.count += 1;
+        self.lingers = self.lingers || !answer.ended;
+        self.stopped = false;
+        Ok(answer.reply)
+    }
+}

@@ -1,0 +1,519 @@
+//! Whole calls over files, links and a sink in memory. What is expected was worked out by hand.
+
+use crate::{Ended, workerd};
+use std::alloc::Global;
+use std::sync::Wait;
+use std::test::Fail;
+use std::thread::Threads;
+use wd_base::{Bytes, LinkNo, NoMemory, Numbers, Origin, Seq, SockNo, Why};
+use wd_machine::{Entry, Out};
+use wd_ports::{
+    Failed, MemFiles, MemMaker, MemPort, MemSink, NoGate, PortEvent, PortPlan, Sink, Timed,
+};
+
+const CONFIG: &[u8] = b"using Workerd = import \"/workerd/workerd.capnp\";
+const config :Workerd.Config = (
+  services = [ (name = \"main\", worker = .hello), ],
+  sockets = [ (name = \"http\", address = \"*:8080\", http = (), service = \"main\") ],
+);
+const hello :Workerd.Worker = (
+  modules = [ (name = \"worker\", esModule = embed \"worker.js\") ],
+  compatibilityDate = \"2024-01-01\",
+);
+";
+
+const OTHER_CONFIG: &[u8] = b"const config :Workerd.Config = ();\n";
+
+const HELLO: &[u8] = b"export default {
+  async fetch(request) {
+    return new Response(\"Hello World\\n\");
+  }
+};
+";
+
+const OTHER_SCRIPT: &[u8] = b"export default {};\n";
+
+const HEAD: &[u8] = b"GET / HTTP/1.1\r\nHost: localhost:8080\r\n\r\n";
+
+const REPLY: &[u8] =
+    b"HTTP/1.1 200 OK\r\ncontent-type: text/plain;charset=UTF-8\r\ncontent-length: 12\r\n\r\nHello World\n";
+
+const BAD: &[u8] =
+    b"HTTP/1.1 400 Bad Request\r\ncontent-type: text/plain;charset=UTF-8\r\ncontent-length: 11\r\nconnection: close\r\n\r\nBad Request";
+
+const PIPELINED: &[u8] =
+    b"GET / HTTP/1.1\r\nHost: localhost:8080\r\n\r\nGET /a HTTP/1.1\r\nHost: b\r\n\r\n";
+
+const HEAD_FRONT: &[u8] = b"GET / HTTP/1.1\r\nHost: loc";
+
+const HEAD_REST: &[u8] = b"alhost:8080\r\n\r\nGET";
+
+const WITHOUT_HOST: &[u8] = b"GET / HTTP/1.1\r\n\r\n";
+
+/// What of the outside fails.
+#[derive(Clone, Copy, Debug, PartialEq, Eq)]
+enum Part {
+    Files,
+    Maker,
+    Port,
+}
+
+/// What stands around a call.
+#[derive(Drop)]
+struct Around<'a> {
+    words: &'a [&'a str],
+    config: &'a [u8],
+    script: &'a [u8],
+    /// The pieces that come on the first link, before its end.
+    pieces: &'a [&'a [u8]],
+    /// The link is gone behind its pieces, and does not end.
+    gone: bool,
+    /// The pieces that come on a second link, where there is one.
+    second: Option<&'a [&'a [u8]]>,
+    /// The part that fails, and the number of the call that does.
+    fails: Option<(Part, u64)>,
+}
+
+fn one_link<'a>(pieces: &'a [&'a [u8]]) -> Around<'a> {
+    Around {
+        words: &["serve", "config.capnp", "--threads", "1"],
+        config: CONFIG,
+        script: HELLO,
+        pieces,
+        gone: false,
+        second: None,
+        fails: None,
+    }
+}
+
+fn words_of(alloc: Global, words: &[&str]) -> Result<Vec<String>, NoMemory> {
+    let mut list = Vec::new(alloc);
+    for word in words {
+        let word = String::from_str(alloc, word)?;
+        if list.push(word).is_err() {
+            return Err(NoMemory);
+        }
+    }
+    Ok(list)
+}
+
+/// The numbers of the calls of a part that fail.
+fn fails_of(alloc: Global, around: &Around<'_>, part: Part) -> Result<Numbers, NoMemory> {
+    let mut fails = Seq::new(alloc);
+    if let Some((failing, number)) = around.fails {
+        if failing == part {
+            fails.push(number)?;
+        }
+    }
+    Ok(fails)
+}
+
+/// The files; one without bytes is not there.
+fn files_of(alloc: Global, around: &Around<'_>) -> Result<MemFiles, NoMemory> {
+    let mut files = MemFiles::new(alloc);
+    files.fail = fails_of(alloc, around, Part::Files)?;
+    add_file(alloc, &mut files, b"config.capnp", around.config)?;
+    add_file(alloc, &mut files, b"worker.js", around.script)?;
+    Ok(files)
+}
+
+fn add_file(
+    alloc: Global,
+    files: &mut MemFiles,
+    path: &[u8],
+    bytes: &[u8],
+) -> Result<(), NoMemory> {
+    if bytes.is_empty() {
+        return Ok(());
+    }
+    let path = Seq::copy(alloc, path)?;
+    let bytes = Seq::copy(alloc, bytes)?;
+    files.files.push((path, bytes))
+}
+
+fn plan_of(alloc: Global, around: &Around<'_>) -> Result<PortPlan, NoMemory> {
+    let mut events = Seq::new(alloc);
+    add_pieces(alloc, &mut events, LinkNo(1), around.pieces)?;
+    events.push((0, last_event(around.gone)))?;
+    if let Some(pieces) = around.second {
+        add_pieces(alloc, &mut events, LinkNo(2), pieces)?;
+        events.push((0, PortEvent::End(LinkNo(2))))?;
+    }
+    let fail = fails_of(alloc, around, Part::Port)?;
+    Ok(PortPlan {
+        events,
+        hosts: Seq::new(alloc),
+        peers: Seq::new(alloc),
+        files: MemFiles::new(alloc),
+        fail,
+    })
+}
+
+/// A link that comes at the first socket, with its pieces.
+fn add_pieces(
+    alloc: Global,
+    events: &mut Timed,
+    link: LinkNo,
+    pieces: &[&[u8]],
+) -> Result<(), NoMemory> {
+    events.push((0, PortEvent::Accept(SockNo(0))))?;
+    for piece in pieces {
+        let piece = Seq::copy(alloc, piece)?;
+        events.push((0, PortEvent::Bytes(link, piece)))?;
+    }
+    Ok(())
+}
+
+fn last_event(gone: bool) -> PortEvent {
+    if gone {
+        PortEvent::Gone(LinkNo(1))
+    } else {
+        PortEvent::End(LinkNo(1))
+    }
+}
+
+fn maker_of(alloc: Global, around: &Around<'_>) -> Result<MemMaker, NoMemory> {
+    let mut plans = Seq::new(alloc);
+    plans.push(plan_of(alloc, around)?)?;
+    let fail = fails_of(alloc, around, Part::Maker)?;
+    Ok(MemMaker {
+        plans,
+        fail,
+        calls: 0,
+        faults: 0,
+    })
+}
+
+/// A sink in memory that takes at most eight bytes at a write.
+#[derive(Drop)]
+struct NarrowSink {
+    inner: MemSink,
+}
+
+impl Sink for NarrowSink {
+    ghost use Rattle.std.specs.Prelude.{Some};
+
+    ghost held = { λ s. Some s.inner.bytes };
+
+    ghost failures = { λ s. s.inner.faults };
+
+    fn write(&mut self, bytes: &[u8]) -> Result<usize, Failed> {
+        let count = bytes.len().min(8);
+        self.inner.write(&bytes[..count])
+    }
+}
+
+/// A sink whose write of this number fails, where there is one.
+fn sink_of(alloc: Global, fail: Option<u64>) -> Result<NarrowSink, NoMemory> {
+    let mut fails = Seq::new(alloc);
+    if let Some(number) = fail {
+        fails.push(number)?;
+    }
+    let inner = MemSink {
+        bytes: Seq::new(alloc),
+        fail: fails,
+        calls: 0,
+        faults: 0,
+    };
+    Ok(NarrowSink { inner })
+}
+
+/// What a call came to: how it ended, and what was printed.
+#[derive(Drop)]
+struct Came {
+    ended: Ended<MemPort>,
+    printed: Bytes,
+}
+
+fn call<R: Threads + Wait + Sync>(
+    rt: &R,
+    alloc: Global,
+    around: &Around<'_>,
+    sink_fails: Option<u64>,
+) -> Result<Came, NoMemory> {
+    let words = words_of(alloc, around.words)?;
+    let mut files = files_of(alloc, around)?;
+    let mut maker = maker_of(alloc, around)?;
+    let mut sink = sink_of(alloc, sink_fails)?;
+    let ended = workerd(
+        rt,
+        alloc,
+        words.as_slice(),
+        &mut files,
+        &mut maker,
+        &mut sink,
+        &NoGate,
+    );
+    Ok(Came {
+        ended,
+        printed: sink.inner.bytes,
+    })
+}
+
+/// What was sent on a link, where there was one, and how often it was shut.
+fn link_of(ports: &[MemPort], link: u32) -> (&[u8], u32) {
+    match ports.first() {
+        Some(port) if link > 0 && link as usize <= port.given() => (
+            port.sent(LinkNo(link)).as_slice(),
+            port.shuts(LinkNo(link)),
+        ),
+        _ => (b"", 0),
+    }
+}
+
+/// The texts, one behind another.
+fn joined(alloc: Global, texts: &[&[u8]]) -> Result<Bytes, NoMemory> {
+    let mut bytes = Seq::new(alloc);
+    for text in texts {
+        bytes.extend(text)?;
+    }
+    Ok(bytes)
+}
+
+#[test]
+fn a_link_carries_the_replies_of_its_requests(rt: HostRuntime) -> Result<(), Fail> {
+    let cases: [(&[&[u8]], &[&[u8]], usize); 8] = [
+        (&[HEAD], &[REPLY], 3),
+        (&[HEAD, HEAD, HEAD], &[REPLY, REPLY, REPLY], 9),
+        (&[PIPELINED], &[REPLY, REPLY], 6),
+        (&[HEAD_FRONT, HEAD_REST], &[REPLY], 3),
+        (&[], &[], 0),
+        (&[b"POST"], &[BAD], 0),
+        (&[HEAD, b"POST", HEAD], &[REPLY, BAD], 3),
+        (&[WITHOUT_HOST], &[BAD], 0),
+    ];
+    for (pieces, replies, entries) in cases {
+        let came = call(&rt, rt.alloc(), &one_link(pieces), None)?;
+        let (sent, shuts) = link_of(came.ended.ports.as_slice(), 1);
+        let replies = joined(rt.alloc(), replies)?;
+        assert_eq!(rt; came.ended.status, 0);
+        assert_eq!(rt; came.printed.len(), 0);
+        assert_eq!(rt; shuts, 1);
+        assert_eq!(rt; came.ended.journal.entries.len(), entries);
+        assert!(rt; sent == replies.as_slice());
+    }
+    Ok(())
+}
+
+#[test]
+fn a_head_may_be_cut_anywhere(rt: HostRuntime) -> Result<(), Fail> {
+    for cut in 1..HEAD.len() {
+        let pieces = [&HEAD[..cut], &HEAD[cut..]];
+        let came = call(&rt, rt.alloc(), &one_link(&pieces), None)?;
+        let (sent, _) = link_of(came.ended.ports.as_slice(), 1);
+        assert!(rt; sent == REPLY, "at {cut}");
+    }
+    Ok(())
+}
+
+#[test]
+fn a_link_that_is_gone_is_shut(rt: HostRuntime) -> Result<(), Fail> {
+    let around = Around {
+        gone: true,
+        ..one_link(&[b"GET /"])
+    };
+    let came = call(&rt, rt.alloc(), &around, None)?;
+    let (sent, shuts) = link_of(came.ended.ports.as_slice(), 1);
+    assert_eq!(rt; came.ended.status, 0);
+    assert_eq!(rt; sent.len(), 0);
+    assert_eq!(rt; shuts, 1);
+    Ok(())
+}
+
+#[test]
+fn a_link_whose_write_fails_is_shut(rt: HostRuntime) -> Result<(), Fail> {
+    let around = Around {
+        fails: Some((Part::Port, 2)),
+        ..one_link(&[HEAD])
+    };
+    let came = call(&rt, rt.alloc(), &around, None)?;
+    let (sent, shuts) = link_of(came.ended.ports.as_slice(), 1);
+    assert_eq!(rt; came.ended.status, 0);
+    assert_eq!(rt; came.ended.journal.entries.len(), 3);
+    assert_eq!(rt; sent.len(), 0);
+    assert_eq!(rt; shuts, 1);
+    Ok(())
+}
+
+#[test]
+fn two_links_have_their_own_replies(rt: HostRuntime) -> Result<(), Fail> {
+    let around = Around {
+        second: Some(&[PIPELINED, b"POST"]),
+        ..one_link(&[HEAD_FRONT, HEAD_REST])
+    };
+    let came = call(&rt, rt.alloc(), &around, None)?;
+    let (first, first_shuts) = link_of(came.ended.ports.as_slice(), 1);
+    let (second, second_shuts) = link_of(came.ended.ports.as_slice(), 2);
+    let replies = joined(rt.alloc(), &[REPLY, REPLY, BAD])?;
+    assert_eq!(rt; came.ended.status, 0);
+    assert!(rt; first == REPLY);
+    assert!(rt; second == replies.as_slice());
+    assert!(rt; first_shuts == 1 && second_shuts == 1);
+    assert_eq!(rt; came.ended.journal.entries.len(), 9);
+    Ok(())
+}
+
+fn is_worked_arrive(entry: &Entry) -> bool {
+    let Entry::Arrive {
+        seat,
+        req,
+        service,
+        origin,
+        allow,
+        request,
+    } = entry
+    else {
+        return false;
+    };
+    seat.0 == 0
+        && req.0 == 1
+        && service.as_slice() == b"main".as_slice()
+        && *origin == Origin::Outside(LinkNo(1))
+        && *allow == 1000
+        && request.url.as_slice() == b"http://localhost:8080/".as_slice()
+}
+
+fn is_worked_begin(entry: &Entry) -> bool {
+    match entry {
+        Entry::Begin { req, .. } => req.0 == 1,
+        _ => false,
+    }
+}
+
+fn is_worked_turn(entry: &Entry) -> bool {
+    match entry {
+        Entry::Turn { req, out, .. } => req.0 == 1 && is_worked_out(out),
+        _ => false,
+    }
+}
+
+fn is_worked_out(out: &Out) -> bool {
+    let Some(reply) = &out.reply else {
+        return false;
+    };
+    out.made.len() == 2
+        && out.freed.len() == 2
+        && out.changed.is_empty()
+        && out.uses.is_empty()
+        && out.steps == 4
+        && reply.status == 200
+        && reply.why == Why::Plain
+        && reply.body.as_slice() == b"Hello World\n".as_slice()
+}
+
+fn is_worked_journal(entries: &[Entry]) -> bool {
+    match entries {
+        [arrive, begin, turn] => {
+            is_worked_arrive(arrive) && is_worked_begin(begin) && is_worked_turn(turn)
+        }
+        _ => false,
+    }
+}
+
+#[test]
+fn the_journal_of_one_request(rt: HostRuntime) -> Result<(), Fail> {
+    let came = call(&rt, rt.alloc(), &one_link(&[HEAD]), None)?;
+    assert!(rt; is_worked_journal(came.ended.journal.entries.as_slice()));
+    Ok(())
+}
+
+#[test]
+fn ten_thousand_requests_on_one_link(rt: HostRuntime) -> Result<(), Fail> {
+    let mut bytes: Bytes = Seq::new(rt.alloc());
+    for _ in 0..10_000 {
+        bytes.extend(HEAD)?;
+    }
+    let pieces = [bytes.as_slice()];
+    let came = call(&rt, rt.alloc(), &one_link(&pieces), None)?;
+    let (sent, _) = link_of(came.ended.ports.as_slice(), 1);
+    assert_eq!(rt; came.ended.journal.entries.len(), 30_000);
+    assert_eq!(rt; sent.len(), 910_000);
+    Ok(())
+}
+
+#[test]
+fn words_that_are_no_command_line(rt: HostRuntime) -> Result<(), Fail> {
+    let cases: [&[&str]; 4] = [
+        &[],
+        &["serve"],
+        &["serve", "config.capnp", "--threads", "0"],
+        &["serve", "config.capnp", "--threads", "1", "more"],
+    ];
+    for words in cases {
+        let around = Around {
+            words,
+            ..one_link(&[])
+        };
+        let came = call(&rt, rt.alloc(), &around, None)?;
+        assert_eq!(rt; came.ended.status, 1);
+        assert!(rt; came.printed.as_slice() == b"error: command line\n".as_slice());
+    }
+    Ok(())
+}
+
+#[test]
+fn a_refused_file_has_its_status_and_text(rt: HostRuntime) -> Result<(), Fail> {
+    let cases: [(&[u8], &[u8], u8, &[u8]); 4] = [
+        (
+            OTHER_CONFIG,
+            HELLO,
+            2,
+            b"error: config LeftOut at 0: form\n",
+        ),
+        (
+            CONFIG,
+            b"",
+            2,
+            b"error: config EmbedMissing at 300: worker.js\n",
+        ),
+        (
+            CONFIG,
+            OTHER_SCRIPT,
+            3,
+            b"error: script main: LeftOut form at 0\n",
+        ),
+        (b"", HELLO, 5, b"error: file config.capnp\n"),
+    ];
+    for (config, script, status, text) in cases {
+        let around = Around {
+            config,
+            script,
+            ..one_link(&[])
+        };
+        let came = call(&rt, rt.alloc(), &around, None)?;
+        assert_eq!(rt; came.ended.status, status);
+        assert!(rt; came.printed.as_slice() == text, "at status {status}");
+    }
+    Ok(())
+}
+
+#[test]
+fn a_fault_has_its_status_and_text(rt: HostRuntime) -> Result<(), Fail> {
+    let cases: [(Part, u8, &[u8]); 3] = [
+        (Part::Files, 5, b"error: file config.capnp\n"),
+        (Part::Maker, 7, b"error: port 0\n"),
+        (Part::Port, 7, b"error: listen *:8080\n"),
+    ];
+    for (part, status, text) in cases {
+        let around = Around {
+            fails: Some((part, 0)),
+            ..one_link(&[])
+        };
+        let came = call(&rt, rt.alloc(), &around, None)?;
+        assert_eq!(rt; came.ended.status, status);
+        assert!(rt; came.printed.as_slice() == text, "at status {status}");
+    }
+    Ok(())
+}
+
+#[test]
+fn a_sink_may_fail_in_the_middle_of_a_text(rt: HostRuntime) -> Result<(), Fail> {
+    let around = Around {
+        words: &["serve"],
+        ..one_link(&[])
+    };
+    let came = call(&rt, rt.alloc(), &around, Some(1))?;
+    assert_eq!(rt; came.ended.status, 4);
+    assert!(rt; came.printed.as_slice() == b"error: c".as_slice());
+    Ok(())
+}

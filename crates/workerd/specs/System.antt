@@ -1,0 +1,23 @@
+-- What the objects over the system tell: no content.
+use Rattle.std.specs.Prelude.{false, [], None}
+use Rattle.std.specs.Ordering.{nat_cmp}
+use Rattle.std.specs.BTreeMap.{ContainsKey}
+use Rattle.wd_base.specs.declared.ids.LinkNo.{LinkNo}
+use Rattle.wd_ports.specs.Told.{Told}
+use Rattle.workerd.specs.declared.port.SystemPort.{SystemPort}
+
+-- files alone: no socket and no link
+abbrev pub files_told : Told
+files_told = record { sockets = []; closed = false; given = 0; links = None; files = None; hosts = None }
+
+-- a port tells its sockets, whether it is closed, and how many links it gave
+abbrev pub port_told : {R : Type 0} → SystemPort R → Told
+port_told p = record { sockets = p.sockets; closed = p.closed; given = p.given; links = None; files = None; hosts = None }
+
+-- the links that may be used are those whose streams are kept
+abbrev pub port_usable : {R : Type 0} → SystemPort R → LinkNo → Type 0
+port_usable p n = ContainsKey nat_cmp p.links n.0
+
+-- the same links may be used
+abbrev pub HasSameLinks : {R : Type 0} → SystemPort R → SystemPort R → Type 0
+HasSameLinks p q = (n : LinkNo) → (port_usable p n → port_usable q n) × (port_usable q n → port_usable p n)
