@@ -281,6 +281,13 @@ impl<R> SystemPort<R> {
 
 #[tactic(auto, unfolding(wd_ports::specs::Told::given_on, wd_ports::specs::Told::received_on, wd_ports::specs::Told::ended_on, wd_ports::specs::Told::sent_on, wd_ports::specs::Told::shut_on))]
 impl<R: FileSystem + AllocGlobal + Net + Clone + Drop> Port for SystemPort<R> {
+    ghost use Rattle.std.specs.Prelude.{◌≡◌, ◌⊎◌, ⊤, true, Ok, IfOk, OnErr};
+    ghost use Rattle.wd_ports.specs.declared.told.Accepted.TheVariants as accepted;
+    ghost use Rattle.wd_ports.specs.declared.told.Side.TheVariants as side;
+    ghost use Rattle.wd_ports.specs.Links.{IsFresh, UsableLink, Keeps, Stays, AddsNone};
+    ghost use Rattle.wd_ports.specs.Told.{after_accept};
+    ghost use Rattle.workerd.specs.System.{port_told, port_usable};
+
     fn listen(&mut self, alloc: Global, address: &Addr) -> Result<SockNo, Failed> {
         match self.add_socket(alloc, address) {
             Ok(number) => Ok(number),
@@ -288,7 +295,16 @@ impl<R: FileSystem + AllocGlobal + Net + Clone + Drop> Port for SystemPort<R> {
         }
     }
 
-    fn accept(&mut self, _alloc: Global) -> Result<Accepted, NoMemory> {
+    fn accept(&mut self, _alloc: Global) -> Result<Accepted, NoMemory>
+        ensures closed { result ≡ Ok accepted.Closed → (self.old.closed ≡ true) ⊎ (self.old.given ≡ 4294967295) }
+        ensures fresh { IfOk result (λ a. IsFresh a (port_told self.old)) }
+        ensures link { IfOk result (λ a. UsableLink a (port_usable self.new) (λ _. side.Accepted)) }
+        ensures tells { port_told self.new ≡ after_accept result (port_told self.old) }
+        ensures blames { self.new.faults ≡ self.old.faults }
+        ensures keeps { Keeps (port_usable self.old) (λ _. side.Accepted) (port_usable self.new) (λ _. side.Accepted) }
+        ensures stays { Stays (λ _. ⊤) (λ _. ⊤) }
+        ensures memory { OnErr result (AddsNone (port_usable self.old) (λ _. side.Accepted) (λ _. ⊤) (port_usable self.new) (λ _. side.Accepted) (λ _. ⊤)) }
+    {
         if self.closed || self.given == u32::MAX {
             self.closed = true;
             return Ok(Accepted::Closed);
