@@ -1,3 +1,5 @@
 pub mod Back
 pub mod Tokens
 pub mod Runs
+pub mod CharLemmas
+pub mod LexComplete
