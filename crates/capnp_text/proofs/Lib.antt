@@ -3,3 +3,4 @@ pub mod Tokens
 pub mod Runs
 pub mod CharLemmas
 pub mod LexComplete
+pub mod LexSound
