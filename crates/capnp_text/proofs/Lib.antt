@@ -4,3 +4,4 @@ pub mod Runs
 pub mod CharLemmas
 pub mod LexComplete
 pub mod LexSound
+pub mod LexLaws
