@@ -5,3 +5,6 @@ pub mod CharLemmas
 pub mod LexComplete
 pub mod LexSound
 pub mod LexLaws
+pub mod MarkLemmas
+pub mod Equations
+pub mod Sound
