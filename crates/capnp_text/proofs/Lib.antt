@@ -8,3 +8,5 @@ pub mod LexLaws
 pub mod MarkLemmas
 pub mod Equations
 pub mod Sound
+pub mod Bounds
+pub mod Complete

@@ -6,6 +6,9 @@ module _ {S T K : Type 0} (step : S → T → Result S K) where
   pub run_step : (s n : S) (t : T) (ts : List T) → step s t ≡ Ok n → run step s (t ∷ ts) ≡ run step n ts
   run_step s n t ts e = ap (λ (o : Result S K). taken o t ts (λ x. run step x ts)) e
 
+  pub run_alike : (r s : S) (t : T) (ts : List T) → step r t ≡ step s t → run step r (t ∷ ts) ≡ run step s (t ∷ ts)
+  run_alike r s t ts e = ap (λ (o : Result S K). taken o t ts (λ x. run step x ts)) e
+
   pub run_stuck : (s : S) (t : T) (ts : List T) (k : K) → step s t ≡ Err k → run step s (t ∷ ts) ≡ Err (record { why = k; item = t; rest = ts })
   run_stuck s t ts k e = ap (λ (o : Result S K). taken o t ts (λ x. run step x ts)) e
 
