@@ -240,7 +240,7 @@ module _ (most : ℕ) where
   Fine-at ds (at.Typed h w) p t f g = Fine-typed ds h w t f
   Fine-at ds (at.In h fs s) p t f g = Fine-value ds h fs s p t f g.0 g.1 g.2
 
-  Fine-step : (s : State) (t : Token) → Fine most s → FineStep most (step most s t)
+  pub Fine-step : (s : State) (t : Token) → Fine most s → FineStep most (step most s t)
   Fine-step s t f = Fine-at s.decls s.at t.place t.tok f.decls f.here
 
   -- ---- runs

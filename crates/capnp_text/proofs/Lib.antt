@@ -10,3 +10,7 @@ pub mod Equations
 pub mod Sound
 pub mod Bounds
 pub mod Complete
+pub mod First
+pub mod Wider
+pub mod Ends
+pub mod Judged

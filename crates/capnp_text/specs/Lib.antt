@@ -6,3 +6,5 @@ pub mod Marks
 pub mod Grammar
 pub mod Machine
 pub mod Steps
+pub mod Fault
+pub mod Answer

@@ -1,12 +1,15 @@
-//! The text form of Cap'n Proto that configurations are written in.
+//! The text form of Cap'n Proto that configurations are written in: its one tree, or its first
+//! fault. `docs/CAPNP_TEXT.md` describes the format.
 #![tactic(auto)]
 
 mod lex;
 mod machine;
+mod reader;
 mod scan;
 mod stack;
 mod steps;
 mod token;
 mod tree;
 
+pub use reader::{parse, ParseEnd, TextFault, TextKind};
 pub use tree::{Decl, Field, File, Placed, Value};
