@@ -1,10 +1,10 @@
 -- Tests of bytes.
-use Rattle.std.proofs.Common.{◌≡◌, ℕ, ◌+◌, ◌<◌, ◌≤◌, Bool, true, false, cond, refl, sym, ap, ◌∙◌, subst, arith, ◌⊎◌, inl, inr, Option, Some, None}
+use Rattle.std.proofs.Common.{◌≡◌, ℕ, ◌<◌, ◌≤◌, Bool, true, false, cond, refl, sym, ap, subst, arith, ◌⊎◌, inl, inr, Option, Some, None}
 use Rattle.std.specs.Prelude.{not, ◌&&◌, ◌||◌, ◌==◌, nat_le}
 use Rattle.std.proofs.lemmas.Bool.{eqb-true, leb-true, le-leb, lt-leb}
 use Rattle.capnp_text.specs.declared.token.Tok.{Tok}
 use Rattle.capnp_text.specs.declared.token.Tok.TheVariants as tok
-use Rattle.capnp_text.specs.Chars.{is_between, is_blank, is_digit, is_letter, is_inner, is_hex, is_escape, sign}
+use Rattle.capnp_text.specs.Chars.{is_between, is_blank, is_digit, is_letter, is_inner, is_hex, sign}
 
 pub cond_yes : {A : Type 0} (r : Bool) (x y : A) → r ≡ true → cond r x y ≡ x
 cond_yes true x y e = refl
@@ -92,10 +92,12 @@ letter_inner b h = or_yes_first (is_letter b) (is_digit b || b == 95) h
 
 pub hex_inner : (b : ℕ) → is_hex b ≡ true → is_inner b ≡ true
 hex_inner b h = elim (or_split (is_digit b) (is_between 65 70 b || is_between 97 102 b) h) [
-      inl d ↦ digit_inner b d
-    | inr r ↦ elim (or_split (is_between 65 70 b) (is_between 97 102 b) r) [
-          inl u ↦ (let x = between_low 65 70 b u in let y = between_high 65 70 b u in letter_inner b (or_yes_first (is_between 65 90 b) (is_between 97 122 b) (between 65 90 b x (omega (arith, y)))))
-        | inr l ↦ (let x = between_low 97 102 b l in let y = between_high 97 102 b l in letter_inner b (or_yes_second (is_between 65 90 b) (is_between 97 122 b) (between 97 122 b x (omega (arith, y))))) ] ]
+  | inl d ↦ digit_inner b d
+  | inr r ↦ elim (or_split (is_between 65 70 b) (is_between 97 102 b) r) [
+    | inl u ↦ (let x = between_low 65 70 b u in let y = between_high 65 70 b u in letter_inner b (or_yes_first (is_between 65 90 b) (is_between 97 122 b) (between 65 90 b x (omega (arith, y)))))
+    | inr l ↦ (let x = between_low 97 102 b l in let y = between_high 97 102 b l in letter_inner b (or_yes_second (is_between 65 90 b) (is_between 97 122 b) (between 97 122 b x (omega (arith, y)))))
+  ]
+]
 
 no_by : (b : ℕ) (r : Bool) → (r ≡ true → is_inner b ≡ true) → is_inner b ≡ false → r ≡ false
 no_by b true f h = let k : is_inner b ≡ true = f refl in cc
@@ -125,4 +127,4 @@ none P b t h = cc
 pub by_sign : (P : ℕ → Tok → Type 0) → P 44 tok.Comma → P 61 tok.Equals → P 59 tok.Semicolon → P 58 tok.Colon → P 46 tok.Dot → P 64 tok.At → P 40 tok.OpenParen → P 41 tok.CloseParen → P 91 tok.OpenBracket → P 93 tok.CloseBracket → (b : ℕ) (t : Tok) → sign b ≡ Some t → P b t
 by_sign P c e s o d a op cp ob cb b t =
     one_of P 44 tok.Comma b t _ c (one_of P 61 tok.Equals b t _ e (one_of P 59 tok.Semicolon b t _ s (one_of P 58 tok.Colon b t _ o (one_of P 46 tok.Dot b t _ d
-      (one_of P 64 tok.At b t _ a (one_of P 40 tok.OpenParen b t _ op (one_of P 41 tok.CloseParen b t _ cp (one_of P 91 tok.OpenBracket b t _ ob (one_of P 93 tok.CloseBracket b t None cb (none P b t))))))))))
+    (one_of P 64 tok.At b t _ a (one_of P 40 tok.OpenParen b t _ op (one_of P 41 tok.CloseParen b t _ cp (one_of P 91 tok.OpenBracket b t _ ob (one_of P 93 tok.CloseBracket b t None cb (none P b t))))))))))

@@ -1,5 +1,5 @@
 -- The end within a declaration.
-use Rattle.std.proofs.Common.{◌≡◌, ℕ, List, Result, Ok, Err, refl, subst, sym}
+use Rattle.std.proofs.Common.{◌≡◌, ℕ, List, Result, refl, subst, sym}
 use Rattle.capnp_text.specs.declared.tree.Decl.{Decl}
 use Rattle.capnp_text.specs.declared.machine.At.{At}
 use Rattle.capnp_text.specs.declared.machine.At.TheVariants as at

@@ -5,7 +5,7 @@ use Rattle.capnp_text.specs.declared.token.Tok.TheVariants as tok
 use Rattle.capnp_text.specs.declared.tree.Placed.{Placed}
 use Rattle.capnp_text.specs.declared.tree.Value.{Value}
 use Rattle.capnp_text.specs.declared.tree.Value.TheVariants as value
-use Rattle.capnp_text.specs.declared.tree.Value.TheOpen.{Value-F, Field-F}
+use Rattle.capnp_text.specs.declared.tree.Value.TheOpen.{Value-F}
 use Rattle.capnp_text.specs.declared.tree.Value.TheFolds.{fold-roll-Value, fold-roll-Field}
 use Rattle.capnp_text.specs.declared.tree.Field.{Field}
 use Rattle.capnp_text.specs.Marks.{Mark, Just, At}

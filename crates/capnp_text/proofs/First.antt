@@ -1,5 +1,5 @@
 -- What the machine does not take, no file goes on with.
-use Rattle.std.proofs.Common.{◌≡◌, ℕ, List, [], ◌∷◌, ◌++◌, Result, Ok, Err, refl, sym, ap, ◌∙◌, subst, append_assoc}
+use Rattle.std.proofs.Common.{◌≡◌, ℕ, List, [], ◌∷◌, ◌++◌, Ok, Err, refl, ◌∙◌, subst}
 use Rattle.std.specs.Prelude.{codes}
 use Rattle.capnp_text.specs.declared.token.Tok.{Tok}
 use Rattle.capnp_text.specs.declared.token.Tok.TheVariants as tok
@@ -18,7 +18,7 @@ use Rattle.capnp_text.specs.declared.machine.At.TheVariants as at
 use Rattle.capnp_text.specs.declared.machine.State.{State}
 use Rattle.capnp_text.specs.declared.machine.Refusal.{Refusal}
 use Rattle.capnp_text.specs.Grammar.{IsFile, IsViable}
-use Rattle.capnp_text.specs.Run.{Stuck, run}
+use Rattle.capnp_text.specs.Run.{run}
 use Rattle.capnp_text.specs.Machine.{word, step, start, read}
 use Rattle.capnp_text.proofs.Runs.{run_step, run_stuck, run_append, Front, front}
 use Rattle.capnp_text.proofs.Sound.{placed, Whole, run_sound}

@@ -1,5 +1,5 @@
 -- What is answered is the text's tree, or its first fault.
-use Rattle.std.proofs.Common.{◌≡◌, ℕ, ◌+◌, Bool, true, false, List, [], ◌∷◌, ◌++◌, length, Result, Ok, Err, refl, sym, ap, ◌∙◌, subst, ◌⊎◌, inl, inr}
+use Rattle.std.proofs.Common.{◌≡◌, ℕ, ◌+◌, false, List, [], ◌∷◌, ◌++◌, length, Result, Ok, Err, refl, sym, ap, ◌∙◌, subst, ◌⊎◌, inl, inr}
 use Rattle.std.specs.Prelude.{IfOk}
 use Rattle.capnp_text.specs.declared.token.Token.{Token}
 use Rattle.capnp_text.specs.declared.scan.Stop.{Stop}
@@ -16,14 +16,14 @@ use Rattle.capnp_text.specs.declared.reader.TextKind.TheVariants as kind
 use Rattle.capnp_text.specs.declared.reader.TextFault.{TextFault}
 use Rattle.capnp_text.specs.declared.reader.ParseEnd.{ParseEnd}
 use Rattle.capnp_text.specs.declared.reader.ParseEnd.TheVariants.{Fault, NoMemory}
-use Rattle.capnp_text.specs.Lexed.{IsLexed, StopsSo, HasTokens}
+use Rattle.capnp_text.specs.Lexed.{StopsSo}
 use Rattle.capnp_text.specs.Scan.{scanned}
 use Rattle.capnp_text.specs.Grammar.{IsFile, IsViable, most_open}
-use Rattle.capnp_text.specs.Run.{Stuck, run}
+use Rattle.capnp_text.specs.Run.{Stuck}
 use Rattle.capnp_text.specs.Machine.{begin_decl, step, start, read}
 use Rattle.capnp_text.specs.Fault.{IsText, Because, AtToken, EndsSo, AtStop, IsFirstFault, IfFault, IsOnly, IsOnlyFault}
 use Rattle.capnp_text.specs.Answer.{kind_of, ran, fault, finished, at_stop, judged, answer, Tells}
-use Rattle.capnp_text.proofs.LexComplete.{told_so, cut_complete}
+use Rattle.capnp_text.proofs.LexComplete.{cut_complete}
 use Rattle.capnp_text.proofs.LexLaws.{has_tokens, tokens_only}
 use Rattle.capnp_text.proofs.Runs.{StopsAt, stops_at, Front, run_append, run_stuck}
 use Rattle.capnp_text.proofs.Ends.{not_finished}
@@ -117,8 +117,16 @@ tree_complete bs ds f =
 at_token : (ts : List Token) (k : Stuck Token Refusal) → read most_open ts ≡ Err k → AtToken ts (record { kind = kind_of k.why; place = k.item.place })
 at_token ts k h =
     let r : StopsAt (step most_open) start ts k = stops_at (step most_open) ts start k h in
-    record { before = r.before; token = k.item; rest = k.rest; is = r.is; viable = viable most_open r.before r.reached r.ran;
-      refused = no_file most_open r.before k.item r.reached k.why r.ran r.refused; at = refl; because = because r.before k.item r.reached k.why r.ran r.refused }
+    record {
+      before = r.before;
+      token = k.item;
+      rest = k.rest;
+      is = r.is;
+      viable = viable most_open r.before r.reached r.ran;
+      refused = no_file most_open r.before k.item r.reached k.why r.ran r.refused;
+      at = refl;
+      because = because r.before k.item r.reached k.why r.ran r.refused;
+    }
 
 unfinished : (p : ℕ) (ds : List Decl) (a : At) (f : TextFault) → finished p ds a ≡ Err f → (a ≡ at.Decl → ⊥) × (record { kind = kind.Unclosed; place = p } ≡ f)
 unfinished p ds at.Decl f h = cc
@@ -127,8 +135,11 @@ unfinished p ds _ f h = (λ e. cc, cc)
 at_end : (bs : List ℕ) (ts : List Token) (p : ℕ) (stop_ : Stop) (s : State) (f : TextFault) → read most_open ts ≡ Ok s → at_stop stop_ p s ≡ Err f → AtStop (record { tokens = ts; stop = stop_; place = p }) f
 at_end bs ts p stop.End s f r e =
     let u : (s.at ≡ at.Decl → ⊥) × (record { kind = kind.Unclosed; place = p } ≡ f) = unfinished p s.decls s.at f e in
-    record { viable = viable most_open ts s r; at = sym (ap (λ (z : TextFault). z.place) u.1);
-      ends = (sym (ap (λ (z : TextFault). z.kind) u.1), λ ds g. u.0 (ap (λ (z : State). z.at) (whole_file most_open ts s ds r g))) }
+    record {
+      viable = viable most_open ts s r;
+      at = sym (ap (λ (z : TextFault). z.place) u.1);
+      ends = (sym (ap (λ (z : TextFault). z.kind) u.1), λ ds g. u.0 (ap (λ (z : State). z.at) (whole_file most_open ts s ds r g)));
+    }
 at_end bs ts p stop.Open s f r e =
     let u : record { kind = kind.Unclosed; place = p } ≡ f = cc in
     record { viable = viable most_open ts s r; at = sym (ap (λ (z : TextFault). z.place) u); ends = sym (ap (λ (z : TextFault). z.kind) u) }

@@ -1,6 +1,6 @@
 -- What is cut into pieces is scanned so.
-use Rattle.std.proofs.Common.{◌≡◌, ℕ, ◌+◌, ◌<◌, ◌≤◌, Bool, true, false, cond, List, [], ◌∷◌, ◌++◌, map, length, Result, Ok, Err, Option, Some, None, zero, suc, refl, sym, ◌∙◌, ap, subst, append_assoc, arith, inl, inr}
-use Rattle.std.specs.Prelude.{not, ◌&&◌, ◌||◌, ◌==◌, flat_map, replicate}
+use Rattle.std.proofs.Common.{◌≡◌, ℕ, ◌+◌, Bool, true, false, cond, List, [], ◌∷◌, ◌++◌, map, length, zero, suc, refl, sym, ◌∙◌, ap, append_assoc, arith, inl, inr}
+use Rattle.std.specs.Prelude.{◌||◌, ◌==◌, flat_map}
 use Rattle.std.proofs.lemmas.List.{append-nil, length-append, length-replicate}
 use Rattle.std.proofs.lemmas.Bool.{eqb-true}
 use Rattle.capnp_text.specs.declared.token.Tok.{Tok}
@@ -8,14 +8,13 @@ use Rattle.capnp_text.specs.declared.token.Tok.TheVariants as tok
 use Rattle.capnp_text.specs.declared.token.Token.{Token}
 use Rattle.capnp_text.specs.declared.scan.Open.{Open}
 use Rattle.capnp_text.specs.declared.scan.Open.TheVariants as o
-use Rattle.capnp_text.specs.declared.scan.Scan.{Scan}
 use Rattle.capnp_text.specs.declared.scan.Stop.TheVariants as stop
 use Rattle.capnp_text.specs.declared.scan.Tokens.{Tokens}
-use Rattle.capnp_text.specs.Chars.{is_blank, is_digit, is_letter, is_inner, is_hex, byte_of, is_escape, escaped, sign}
+use Rattle.capnp_text.specs.Chars.{is_blank, is_digit, is_letter, is_inner, is_hex, byte_of, is_escape, escaped}
 use Rattle.capnp_text.specs.Lexed.{Letter, Raw, Escape, Code, letter_bytes, letter_value, is_raw, IsLetter, Pair, spaces, pair_bytes, pair_value, IsPair, Every, ArePairs, Piece, Blank, Comment, Name, Number, Hex, Text, Data, Sign, piece_bytes, IsLine, Passes, IsPiece, Apart, Ends, text_of, ArePieces, piece_tokens, tokens_of, LetterPart, PairPart, MaySpace, Tail, Nothing, OpenComment, OpenText, OpenHex, OpenData, tail_bytes, IsTail, is_open, IsCut}
-use Rattle.capnp_text.specs.Run.{Stuck, taken, run}
-use Rattle.capnp_text.specs.Scan.{Scanned, to, refused, with_token, gap, behind, in_name, in_number, in_zero, in_mark, in_hex, in_text, in_escape, in_data, in_pair, in_space, step_at, whole, stays_open, tokens_at, Reading, on, next, begin, told, scanned}
-use Rattle.capnp_text.proofs.CharLemmas.{cond_yes, cond_no, or_split, or_no, or_first, or_second, apart, no_blank, not_yes, digit_no_letter, no_inner_no_digit, no_inner_no_hex, no_inner_apart, by_sign}
+use Rattle.capnp_text.specs.Run.{taken, run}
+use Rattle.capnp_text.specs.Scan.{Scanned, to, with_token, gap, behind, in_text, in_escape, in_data, in_pair, in_space, step_at, Reading, on, next, told, scanned}
+use Rattle.capnp_text.proofs.CharLemmas.{cond_yes, cond_no, or_first, or_second, apart, no_blank, not_yes, digit_no_letter, no_inner_no_digit, no_inner_no_hex, no_inner_apart, by_sign}
 use Rattle.capnp_text.proofs.Runs.{run_step}
 
 abbrev pub reading : ℕ → List Token → Open → Reading

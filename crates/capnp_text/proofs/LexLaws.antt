@@ -1,5 +1,5 @@
 -- The tokens of a text are those that are scanned, and no others.
-use Rattle.std.proofs.Common.{◌≡◌, ℕ, ◌+◌, ◌<◌, ◌≤◌, Bool, true, false, cond, List, [], ◌∷◌, ◌++◌, length, Result, Ok, Err, Option, Some, None, refl, sym, ◌∙◌, ap, subst, append_assoc, arith}
+use Rattle.std.proofs.Common.{◌≡◌, ℕ, ◌+◌, Bool, true, false, cond, List, [], ◌∷◌, ◌++◌, length, Result, Ok, Err, Option, Some, None, refl, sym, ◌∙◌, ap, subst, arith}
 use Rattle.std.specs.Prelude.{◌==◌}
 use Rattle.capnp_text.specs.declared.token.Tok.{Tok}
 use Rattle.capnp_text.specs.declared.token.Tok.TheVariants as tok
@@ -13,7 +13,7 @@ use Rattle.capnp_text.specs.declared.scan.Tokens.{Tokens}
 use Rattle.capnp_text.specs.Chars.{is_blank, is_digit, is_letter, is_inner, is_hex, is_escape, sign}
 use Rattle.capnp_text.specs.Lexed.{IsCut, FirstBad, StopsSo, HasTokens}
 use Rattle.capnp_text.specs.Run.{Stuck, taken, run}
-use Rattle.capnp_text.specs.Scan.{Scanned, refused, with_token, signed, gap, behind, in_number, step_at, whole, tokens_at, Reading, on, next, begin, told, scanned}
+use Rattle.capnp_text.specs.Scan.{Scanned, refused, with_token, signed, gap, behind, in_number, step_at, whole, Reading, on, next, begin, told, scanned}
 use Rattle.capnp_text.proofs.LexComplete.{told_so, cut_complete}
 use Rattle.capnp_text.proofs.LexSound.{out, left, cut_sound}
 use Rattle.capnp_text.proofs.Runs.{StopsAt, stops_at, run_stuck, run_append, run_step}
@@ -50,7 +50,7 @@ says_signed ts p None = says_refused ts
 says_gap : (ts : List Token) (p b : ℕ) → Says ts (gap ts p b)
 says_gap ts p b =
     says_cond ts (is_blank b) _ _ (says_ok ts _) (says_cond ts (is_letter b) _ _ (says_ok ts _) (says_cond ts (b == 48) _ _ (says_ok ts _) (says_cond ts (is_digit b) _ _ (says_ok ts _)
-      (says_cond ts (b == 35) _ _ (says_ok ts _) (says_cond ts (b == 34) _ _ (says_ok ts _) (says_signed ts p (sign b)))))))
+    (says_cond ts (b == 35) _ _ (says_ok ts _) (says_cond ts (b == 34) _ _ (says_ok ts _) (says_signed ts p (sign b)))))))
 
 says_behind : (ts : List Token) (p b : ℕ) → Says ts (behind ts p b)
 says_behind ts p b = says_cond ts (is_inner b) _ _ (says_refused ts) (says_gap ts p b)
@@ -129,9 +129,16 @@ no_cut before b r k h e us open_ c =
 first_bad : (bs : List ℕ) (k : Stuck ℕ Tokens) → Unread bs k → FirstBad bs k.why.tokens k.why.place
 first_bad bs k u =
     let e : u.reached.place ≡ 0 + length u.before = place_run u.before begin u.reached u.ran in
-    record { before = u.before; byte = k.item; rest = k.rest; is = u.is; at = ap (λ (t : Tokens). t.place) u.why ∙ e ∙ omega arith; open_ = left u.reached;
+    record {
+      before = u.before;
+      byte = k.item;
+      rest = k.rest;
+      is = u.is;
+      at = ap (λ (t : Tokens). t.place) u.why ∙ e ∙ omega arith;
+      open_ = left u.reached;
       cut = subst (λ (z : List Token). IsCut u.before z (left u.reached)) (sym (ap (λ (t : Tokens). t.tokens) u.why)) (cut_sound u.before u.reached u.ran);
-      refused = no_cut u.before k.item u.reached k.why u.ran u.bad }
+      refused = no_cut u.before k.item u.reached k.why u.ran u.bad;
+    }
 
 has_told : (bs : List ℕ) (read : Result Reading (Stuck ℕ Tokens)) → run next begin bs ≡ read → HasTokens bs (told read)
 has_told bs (Ok r) h =

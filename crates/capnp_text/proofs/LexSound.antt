@@ -1,6 +1,6 @@
 -- What is scanned is cut into pieces.
-use Rattle.std.proofs.Common.{◌≡◌, ℕ, ◌+◌, ◌<◌, ◌≤◌, Bool, true, false, cond, List, [], ◌∷◌, ◌++◌, map, length, Result, Ok, Err, Option, Some, None, zero, suc, refl, sym, ◌∙◌, ap, subst, append_assoc, arith, inl, inr, ◌⊎◌}
-use Rattle.std.specs.Prelude.{not, ◌&&◌, ◌||◌, ◌==◌, flat_map, replicate}
+use Rattle.std.proofs.Common.{◌≡◌, ℕ, ◌+◌, Bool, true, false, cond, List, [], ◌∷◌, ◌++◌, map, length, Ok, Option, Some, None, zero, suc, refl, sym, ◌∙◌, ap, subst, append_assoc, arith, inl, inr, ◌⊎◌}
+use Rattle.std.specs.Prelude.{◌||◌, ◌==◌, flat_map}
 use Rattle.std.proofs.lemmas.List.{append-nil, length-append, length-replicate}
 use Rattle.std.proofs.lemmas.Bool.{eqb-true}
 use Rattle.capnp_text.specs.declared.token.Tok.{Tok}
@@ -8,13 +8,10 @@ use Rattle.capnp_text.specs.declared.token.Tok.TheVariants as tok
 use Rattle.capnp_text.specs.declared.token.Token.{Token}
 use Rattle.capnp_text.specs.declared.scan.Open.{Open}
 use Rattle.capnp_text.specs.declared.scan.Open.TheVariants as o
-use Rattle.capnp_text.specs.declared.scan.Scan.{Scan}
-use Rattle.capnp_text.specs.declared.scan.Stop.TheVariants as stop
-use Rattle.capnp_text.specs.declared.scan.Tokens.{Tokens}
 use Rattle.capnp_text.specs.Chars.{is_blank, is_digit, is_letter, is_inner, is_hex, byte_of, is_escape, escaped, sign}
-use Rattle.capnp_text.specs.Lexed.{Letter, Raw, Escape, Code, letter_bytes, letter_value, is_raw, IsLetter, Pair, spaces, pair_bytes, pair_value, IsPair, Every, ArePairs, Piece, Blank, Comment, Name, Number, Hex, Text, Data, Sign, piece_bytes, IsLine, Passes, IsPiece, Apart, Ends, text_of, ArePieces, piece_tokens, tokens_of, LetterPart, PairPart, MaySpace, Tail, Nothing, OpenComment, OpenText, OpenHex, OpenData, tail_bytes, IsTail, is_open, IsCut}
-use Rattle.capnp_text.specs.Run.{Stuck, taken, run}
-use Rattle.capnp_text.specs.Scan.{Scanned, to, refused, signed, with_token, gap, behind, in_name, in_number, in_zero, in_mark, in_hex, in_comment, in_text, in_escape, in_escape_hex, in_escape_low, in_data, in_data_low, in_pair, in_space, step_at, whole, stays_open, Reading, on, next, begin}
+use Rattle.capnp_text.specs.Lexed.{Letter, Raw, Escape, Code, letter_bytes, letter_value, IsLetter, Pair, spaces, pair_bytes, pair_value, IsPair, Every, ArePairs, Piece, Blank, Comment, Name, Number, Hex, Text, Data, Sign, piece_bytes, IsLine, Passes, IsPiece, Apart, Ends, text_of, ArePieces, piece_tokens, tokens_of, LetterPart, PairPart, MaySpace, Tail, Nothing, OpenComment, OpenText, OpenHex, OpenData, tail_bytes, IsTail, is_open, IsCut}
+use Rattle.capnp_text.specs.Run.{taken, run}
+use Rattle.capnp_text.specs.Scan.{Scanned, refused, signed, with_token, gap, behind, in_name, in_number, in_zero, in_mark, in_hex, in_comment, in_text, in_escape, in_escape_hex, in_escape_low, in_data, in_data_low, in_pair, in_space, whole, stays_open, Reading, on, next, begin}
 use Rattle.capnp_text.proofs.CharLemmas.{not_no, or_no}
 use Rattle.capnp_text.proofs.LexComplete.{reading}
 
@@ -34,9 +31,15 @@ moved ts p q bs cs us open_ e f h = subst (λ (n : ℕ). FromGap ts n cs us open
 
 from_piece : (c : Piece) (ts : List Token) (p : ℕ) (rest : List ℕ) (us : List Token) (open_ : Bool) → IsPiece c → Ends c rest → FromGap (ts ++ piece_tokens c p) (p + length (piece_bytes c)) rest us open_ → FromGap ts p (piece_bytes c ++ rest) us open_
 from_piece c ts p rest us open_ h e g =
-    record { pieces = c ∷ g.pieces; tail = g.tail; are = (h, subst (Ends c) g.text e, g.are); is_tail = g.is_tail;
+    record {
+      pieces = c ∷ g.pieces;
+      tail = g.tail;
+      are = (h, subst (Ends c) g.text e, g.are);
+      is_tail = g.is_tail;
       text = ap (λ (z : List ℕ). piece_bytes c ++ z) g.text ∙ sym (append_assoc (piece_bytes c) (text_of g.pieces) (tail_bytes g.tail));
-      found = g.found ∙ append_assoc ts (piece_tokens c p) (tokens_of (p + length (piece_bytes c)) g.pieces); ended = g.ended }
+      found = g.found ∙ append_assoc ts (piece_tokens c p) (tokens_of (p + length (piece_bytes c)) g.pieces);
+      ended = g.ended;
+    }
 
 from_tail : (t : Tail) (ts : List Token) (p : ℕ) (bs : List ℕ) (us : List Token) (open_ : Bool) → IsTail t → bs ≡ tail_bytes t → us ≡ ts → open_ ≡ is_open t → FromGap ts p bs us open_
 from_tail t ts p bs us open_ h e f g = record { pieces = []; tail = t; are = tt; is_tail = h; text = e; found = f ∙ sym (append-nil ts); ended = sym g }
@@ -53,13 +56,25 @@ record WordClaim (f : ℕ → Bool) (made : List ℕ → Tok) (ts : List Token) 
 
 word_more : (f : ℕ → Bool) (made : List ℕ → Tok) (ts : List Token) (q : ℕ) (w : List ℕ) (p b : ℕ) (bs : List ℕ) (us : List Token) (open_ : Bool) → f b ≡ true → WordClaim f made ts q (w ++ b ∷ []) (p + 1) bs us open_ → WordClaim f made ts q w p (b ∷ bs) us open_
 word_more f made ts q w p b bs us open_ h c =
-    record { more = b ∷ c.more; rest = c.rest; text = ap (λ (z : List ℕ). b ∷ z) c.text; every = (h, c.every); apart = c.apart;
-      from = moved _ _ _ c.rest c.rest us open_ (omega arith) refl (subst (λ (z : List ℕ). FromGap (with_token ts q (made z)) (p + 1 + length c.more) c.rest us open_) (append_assoc w (b ∷ []) c.more) c.from) }
+    record {
+      more = b ∷ c.more;
+      rest = c.rest;
+      text = ap (λ (z : List ℕ). b ∷ z) c.text;
+      every = (h, c.every);
+      apart = c.apart;
+      from = moved _ _ _ c.rest c.rest us open_ (omega arith) refl (subst (λ (z : List ℕ). FromGap (with_token ts q (made z)) (p + 1 + length c.more) c.rest us open_) (append_assoc w (b ∷ []) c.more) c.from);
+    }
 
 word_stop : (f : ℕ → Bool) (made : List ℕ → Tok) (ts : List Token) (q : ℕ) (w : List ℕ) (p : ℕ) (bs : List ℕ) (us : List Token) (open_ : Bool) → Apart bs → FromGap (with_token ts q (made w)) p bs us open_ → WordClaim f made ts q w p bs us open_
 word_stop f made ts q w p bs us open_ a g =
-    record { more = []; rest = bs; text = refl; every = tt; apart = a;
-      from = moved _ _ _ bs bs us open_ (omega arith) refl (subst (λ (z : List ℕ). FromGap (with_token ts q (made z)) p bs us open_) (sym (append-nil w)) g) }
+    record {
+      more = [];
+      rest = bs;
+      text = refl;
+      every = tt;
+      apart = a;
+      from = moved _ _ _ bs bs us open_ (omega arith) refl (subst (λ (z : List ℕ). FromGap (with_token ts q (made z)) p bs us open_) (sym (append-nil w)) g);
+    }
 
 -- ---- what remains of a comment, a text, a `0x` text
 
@@ -159,32 +174,68 @@ Claim (o.DataSpace q w) ts p bs us open_ = (k n : ℕ) → p ≡ n + k → MoreC
 text_letter : (l : Letter) (ts : List Token) (q : ℕ) (w : List ℕ) (p m : ℕ) (bs : List ℕ) (us : List Token) (open_ : Bool) → IsLetter l → m ≡ p + length (letter_bytes l) → TextClaim ts q (w ++ letter_value l ∷ []) m bs us open_ → TextClaim ts q w p (letter_bytes l ++ bs) us open_
 text_letter l ts q w p m bs us open_ h e (inl c) =
     let len : m + length (flat_map letter_bytes c.letters) + 1 ≡ p + length (letter_bytes l ++ flat_map letter_bytes c.letters) + 1 = omega (arith, length-append (letter_bytes l) (flat_map letter_bytes c.letters)) in
-    inl (record { letters = l ∷ c.letters; rest = c.rest;
-      text = ap (λ (z : List ℕ). letter_bytes l ++ z) c.text ∙ sym (append_assoc (letter_bytes l) (flat_map letter_bytes c.letters) (34 ∷ c.rest)); are = (h, c.are);
-      from = moved _ _ _ c.rest c.rest us open_ len refl (subst (λ (z : List ℕ). FromGap (with_token ts q (tok.Text z)) (m + length (flat_map letter_bytes c.letters) + 1) c.rest us open_) (append_assoc w (letter_value l ∷ []) (map letter_value c.letters)) c.from) })
+    inl (record {
+      letters = l ∷ c.letters;
+      rest = c.rest;
+      text = ap (λ (z : List ℕ). letter_bytes l ++ z) c.text ∙ sym (append_assoc (letter_bytes l) (flat_map letter_bytes c.letters) (34 ∷ c.rest));
+      are = (h, c.are);
+      from = moved _ _ _ c.rest c.rest us open_ len refl (subst (λ (z : List ℕ). FromGap (with_token ts q (tok.Text z)) (m + length (flat_map letter_bytes c.letters) + 1) c.rest us open_) (append_assoc w (letter_value l ∷ []) (map letter_value c.letters)) c.from);
+    })
 text_letter l ts q w p m bs us open_ h e (inr c) =
-    inr (record { letters = l ∷ c.letters; part = c.part;
-      text = ap (λ (z : List ℕ). letter_bytes l ++ z) c.text ∙ sym (append_assoc (letter_bytes l) (flat_map letter_bytes c.letters) c.part); are = (h, c.are); is_part = c.is_part; none = c.none; ended = c.ended })
+    inr (record {
+      letters = l ∷ c.letters;
+      part = c.part;
+      text = ap (λ (z : List ℕ). letter_bytes l ++ z) c.text ∙ sym (append_assoc (letter_bytes l) (flat_map letter_bytes c.letters) c.part);
+      are = (h, c.are);
+      is_part = c.is_part;
+      none = c.none;
+      ended = c.ended;
+    })
 
 more_pair : (r : Pair) (ts : List Token) (q : ℕ) (w : List ℕ) (p m : ℕ) (bs : List ℕ) (us : List Token) (open_ : Bool) → IsPair r → m ≡ p + length (pair_bytes r) → MoreClaim ts q (w ++ pair_value r ∷ []) m bs us open_ → MoreClaim ts q w p (pair_bytes r ++ bs) us open_
 more_pair r ts q w p m bs us open_ h e (inl c) =
     let len : m + length (flat_map pair_bytes c.pairs) + 1 ≡ p + length (pair_bytes r ++ flat_map pair_bytes c.pairs) + 1 = omega (arith, length-append (pair_bytes r) (flat_map pair_bytes c.pairs)) in
-    inl (record { pairs = r ∷ c.pairs; rest = c.rest;
-      text = ap (λ (z : List ℕ). pair_bytes r ++ z) c.text ∙ sym (append_assoc (pair_bytes r) (flat_map pair_bytes c.pairs) (34 ∷ c.rest)); are = (h, c.are);
-      from = moved _ _ _ c.rest c.rest us open_ len refl (subst (λ (z : List ℕ). FromGap (with_token ts q (tok.Data z)) (m + length (flat_map pair_bytes c.pairs) + 1) c.rest us open_) (append_assoc w (pair_value r ∷ []) (map pair_value c.pairs)) c.from) })
+    inl (record {
+      pairs = r ∷ c.pairs;
+      rest = c.rest;
+      text = ap (λ (z : List ℕ). pair_bytes r ++ z) c.text ∙ sym (append_assoc (pair_bytes r) (flat_map pair_bytes c.pairs) (34 ∷ c.rest));
+      are = (h, c.are);
+      from = moved _ _ _ c.rest c.rest us open_ len refl (subst (λ (z : List ℕ). FromGap (with_token ts q (tok.Data z)) (m + length (flat_map pair_bytes c.pairs) + 1) c.rest us open_) (append_assoc w (pair_value r ∷ []) (map pair_value c.pairs)) c.from);
+    })
 more_pair r ts q w p m bs us open_ h e (inr c) =
-    inr (record { pairs = r ∷ c.pairs; spaces_ = c.spaces_; part = c.part;
-      text = ap (λ (z : List ℕ). pair_bytes r ++ z) c.text ∙ sym (append_assoc (pair_bytes r) (flat_map pair_bytes c.pairs) c.part); are = (h, c.are); is_part = c.is_part; none = c.none; ended = c.ended })
+    inr (record {
+      pairs = r ∷ c.pairs;
+      spaces_ = c.spaces_;
+      part = c.part;
+      text = ap (λ (z : List ℕ). pair_bytes r ++ z) c.text ∙ sym (append_assoc (pair_bytes r) (flat_map pair_bytes c.pairs) c.part);
+      are = (h, c.are);
+      is_part = c.is_part;
+      none = c.none;
+      ended = c.ended;
+    })
 
 first_pair : (r : Pair) (ts : List Token) (q p m : ℕ) (bs : List ℕ) (us : List Token) (open_ : Bool) → r.spaces ≡ 0 → IsPair r → m ≡ p + length (pair_bytes r) → MoreClaim ts q (pair_value r ∷ []) m bs us open_ → BeginClaim ts q p (pair_bytes r ++ bs) us open_
 first_pair r ts q p m bs us open_ z h e (inl c) =
     let len : m + length (flat_map pair_bytes c.pairs) + 1 ≡ p + length (pair_bytes r ++ flat_map pair_bytes c.pairs) + 1 = omega (arith, length-append (pair_bytes r) (flat_map pair_bytes c.pairs)) in
-    inl (record { pairs = r ∷ c.pairs; rest = c.rest;
-      text = ap (λ (y : List ℕ). pair_bytes r ++ y) c.text ∙ sym (append_assoc (pair_bytes r) (flat_map pair_bytes c.pairs) (34 ∷ c.rest)); are = (z, h, c.are);
-      from = moved _ _ _ c.rest c.rest us open_ len refl c.from })
+    inl (record {
+      pairs = r ∷ c.pairs;
+      rest = c.rest;
+      text = ap (λ (y : List ℕ). pair_bytes r ++ y) c.text ∙ sym (append_assoc (pair_bytes r) (flat_map pair_bytes c.pairs) (34 ∷ c.rest));
+      are = (z, h, c.are);
+      from = moved _ _ _ c.rest c.rest us open_ len refl c.from;
+    })
 first_pair r ts q p m bs us open_ z h e (inr c) =
-    inr (record { pairs = r ∷ c.pairs; spaces_ = c.spaces_; part = c.part;
-      text = ap (λ (y : List ℕ). pair_bytes r ++ y) c.text ∙ sym (append_assoc (pair_bytes r) (flat_map pair_bytes c.pairs) c.part); are = (z, h, c.are); may = tt; is_part = c.is_part; none = c.none; ended = c.ended })
+    inr (record {
+      pairs = r ∷ c.pairs;
+      spaces_ = c.spaces_;
+      part = c.part;
+      text = ap (λ (y : List ℕ). pair_bytes r ++ y) c.text ∙ sym (append_assoc (pair_bytes r) (flat_map pair_bytes c.pairs) c.part);
+      are = (z, h, c.are);
+      may = tt;
+      is_part = c.is_part;
+      none = c.none;
+      ended = c.ended;
+    })
 
 pair_of : ℕ → ℕ → ℕ → Pair
 pair_of k high low = record { spaces = k; high = high; low = low }
@@ -197,14 +248,14 @@ low_more : (k h : ℕ) (ts : List Token) (q : ℕ) (w : List ℕ) (p n : ℕ) (b
 low_more k h ts q w p n bs us open_ e d (inl c) =
     let len : p + 1 ≡ n + length (spaces k ++ h ∷ c.0 ∷ []) = omega (arith, pair_length k h c.0) in
     subst (λ (z : List ℕ). MoreClaim ts q w n z us open_) (append_assoc (spaces k) (h ∷ c.0 ∷ []) c.1 ∙ ap (λ (z : List ℕ). spaces k ++ h ∷ z) (sym c.2))
-      (more_pair (record { spaces = k; high = h; low = c.0 }) ts q w n (p + 1) c.1 us open_ (e, c.3) len c.4)
+    (more_pair (record { spaces = k; high = h; low = c.0 }) ts q w n (p + 1) c.1 us open_ (e, c.3) len c.4)
 low_more k h ts q w p n bs us open_ e d (inr c) =
     inr (record { pairs = []; spaces_ = k; part = spaces k ++ h ∷ bs; text = refl; are = tt; is_part = inr (h, e, ap (λ (z : List ℕ). spaces k ++ h ∷ z) c.0); none = c.1; ended = c.2 })
 
 low_begin : (h : ℕ) (ts : List Token) (q p : ℕ) (bs : List ℕ) (us : List Token) (open_ : Bool) → is_hex h ≡ true → LowClaim ts q [] h (p + 1) bs us open_ → BeginClaim ts q p (h ∷ bs) us open_
 low_begin h ts q p bs us open_ e (inl c) =
     subst (λ (z : List ℕ). BeginClaim ts q p z us open_) (ap (λ (z : List ℕ). h ∷ z) (sym c.2))
-      (first_pair (record { spaces = 0; high = h; low = c.0 }) ts q p (p + 1 + 1) c.1 us open_ refl (e, c.3) (omega arith) c.4)
+    (first_pair (record { spaces = 0; high = h; low = c.0 }) ts q p (p + 1 + 1) c.1 us open_ refl (e, c.3) (omega arith) c.4)
 low_begin h ts q p bs us open_ e (inr c) =
     inr (record { pairs = []; spaces_ = 0; part = h ∷ bs; text = refl; are = tt; may = refl; is_part = inr (h, e, ap (λ (z : List ℕ). h ∷ z) c.0); none = c.1; ended = c.2 })
 
@@ -213,23 +264,23 @@ low_begin h ts q p bs us open_ e (inr c) =
 from_name : (ts : List Token) (p b : ℕ) (bs : List ℕ) (us : List Token) (open_ : Bool) → is_letter b ≡ true → WordClaim is_inner tok.Name ts p (b ∷ []) (p + 1) bs us open_ → FromGap ts p (b ∷ bs) us open_
 from_name ts p b bs us open_ h c =
     moved ts p p (piece_bytes (Name b c.more) ++ c.rest) (b ∷ bs) us open_ refl (ap (λ (z : List ℕ). b ∷ z) (sym c.text))
-      (from_piece (Name b c.more) ts p c.rest us open_ (h, c.every) c.apart (moved _ _ _ c.rest c.rest us open_ (omega arith) refl c.from))
+    (from_piece (Name b c.more) ts p c.rest us open_ (h, c.every) c.apart (moved _ _ _ c.rest c.rest us open_ (omega arith) refl c.from))
 
 from_number : (ts : List Token) (p b : ℕ) (bs : List ℕ) (us : List Token) (open_ : Bool) → is_digit b ≡ true → WordClaim is_digit tok.Number ts p (b ∷ []) (p + 1) bs us open_ → FromGap ts p (b ∷ bs) us open_
 from_number ts p b bs us open_ h c =
     moved ts p p (piece_bytes (Number b c.more) ++ c.rest) (b ∷ bs) us open_ refl (ap (λ (z : List ℕ). b ∷ z) (sym c.text))
-      (from_piece (Number b c.more) ts p c.rest us open_ (h, c.every) c.apart (moved _ _ _ c.rest c.rest us open_ (omega arith) refl c.from))
+    (from_piece (Number b c.more) ts p c.rest us open_ (h, c.every) c.apart (moved _ _ _ c.rest c.rest us open_ (omega arith) refl c.from))
 
 from_hex : (ts : List Token) (p b : ℕ) (bs : List ℕ) (us : List Token) (open_ : Bool) → is_hex b ≡ true → WordClaim is_hex tok.Hex ts p (b ∷ []) (p + 1 + 1 + 1) bs us open_ → FromGap ts p (48 ∷ 120 ∷ b ∷ bs) us open_
 from_hex ts p b bs us open_ h c =
     moved ts p p (piece_bytes (Hex b c.more) ++ c.rest) (48 ∷ 120 ∷ b ∷ bs) us open_ refl (ap (λ (z : List ℕ). 48 ∷ 120 ∷ b ∷ z) (sym c.text))
-      (from_piece (Hex b c.more) ts p c.rest us open_ (h, c.every) c.apart (moved _ _ _ c.rest c.rest us open_ (omega arith) refl c.from))
+    (from_piece (Hex b c.more) ts p c.rest us open_ (h, c.every) c.apart (moved _ _ _ c.rest c.rest us open_ (omega arith) refl c.from))
 
 from_data : (ts : List Token) (p : ℕ) (bs : List ℕ) (us : List Token) (open_ : Bool) → BeginClaim ts p (p + 1 + 1 + 1) bs us open_ → FromGap ts p (48 ∷ 120 ∷ 34 ∷ bs) us open_
 from_data ts p bs us open_ (inl c) =
     let len : p + 1 + 1 + 1 + length (flat_map pair_bytes c.pairs) + 1 ≡ p + length (piece_bytes (Data c.pairs)) = omega (arith, length-append (flat_map pair_bytes c.pairs) (34 ∷ [])) in
     moved ts p p (piece_bytes (Data c.pairs) ++ c.rest) (48 ∷ 120 ∷ 34 ∷ bs) us open_ refl (ap (λ (z : List ℕ). 48 ∷ 120 ∷ 34 ∷ z) (append_assoc (flat_map pair_bytes c.pairs) (34 ∷ []) c.rest ∙ sym c.text))
-      (from_piece (Data c.pairs) ts p c.rest us open_ c.are tt (moved _ _ _ c.rest c.rest us open_ len refl c.from))
+    (from_piece (Data c.pairs) ts p c.rest us open_ c.are tt (moved _ _ _ c.rest c.rest us open_ len refl c.from))
 from_data ts p bs us open_ (inr c) = from_tail (OpenData c.pairs c.spaces_ c.part) ts p (48 ∷ 120 ∷ 34 ∷ bs) us open_ (c.are, c.may, c.is_part) (ap (λ (z : List ℕ). 48 ∷ 120 ∷ 34 ∷ z) c.text) c.none c.ended
 
 from_mark : (ts : List Token) (p : ℕ) (bs : List ℕ) (us : List Token) (open_ : Bool) → MarkClaim ts p (p + 1 + 1) bs us open_ → FromGap ts p (48 ∷ 120 ∷ bs) us open_
@@ -245,14 +296,14 @@ from_comment : (ts : List Token) (p : ℕ) (bs : List ℕ) (us : List Token) (op
 from_comment ts p bs us open_ (inl c) =
     let len : p + 1 + length c.0 + 1 ≡ p + length (piece_bytes (Comment c.0)) = omega (arith, length-append c.0 (10 ∷ [])) in
     moved ts p p (piece_bytes (Comment c.0) ++ c.1) (35 ∷ bs) us open_ refl (ap (λ (z : List ℕ). 35 ∷ z) (append_assoc c.0 (10 ∷ []) c.1 ∙ sym c.2))
-      (from_piece (Comment c.0) ts p c.1 us open_ c.3 tt (moved _ _ _ c.1 c.1 us open_ len refl (subst (λ (z : List Token). FromGap z (p + 1 + length c.0 + 1) c.1 us open_) (sym (append-nil ts)) c.4)))
+    (from_piece (Comment c.0) ts p c.1 us open_ c.3 tt (moved _ _ _ c.1 c.1 us open_ len refl (subst (λ (z : List Token). FromGap z (p + 1 + length c.0 + 1) c.1 us open_) (sym (append-nil ts)) c.4)))
 from_comment ts p bs us open_ (inr c) = from_tail (OpenComment bs) ts p (35 ∷ bs) us open_ c.0 refl c.1 c.2
 
 from_text : (ts : List Token) (p : ℕ) (bs : List ℕ) (us : List Token) (open_ : Bool) → TextClaim ts p [] (p + 1) bs us open_ → FromGap ts p (34 ∷ bs) us open_
 from_text ts p bs us open_ (inl c) =
     let len : p + 1 + length (flat_map letter_bytes c.letters) + 1 ≡ p + length (piece_bytes (Text c.letters)) = omega (arith, length-append (flat_map letter_bytes c.letters) (34 ∷ [])) in
     moved ts p p (piece_bytes (Text c.letters) ++ c.rest) (34 ∷ bs) us open_ refl (ap (λ (z : List ℕ). 34 ∷ z) (append_assoc (flat_map letter_bytes c.letters) (34 ∷ []) c.rest ∙ sym c.text))
-      (from_piece (Text c.letters) ts p c.rest us open_ c.are tt (moved _ _ _ c.rest c.rest us open_ len refl c.from))
+    (from_piece (Text c.letters) ts p c.rest us open_ c.are tt (moved _ _ _ c.rest c.rest us open_ len refl c.from))
 from_text ts p bs us open_ (inr c) = from_tail (OpenText c.letters c.part) ts p (34 ∷ bs) us open_ (c.are, c.is_part) (ap (λ (z : List ℕ). 34 ∷ z) c.text) c.none c.ended
 
 from_blank : (ts : List Token) (p b : ℕ) (bs : List ℕ) (us : List Token) (open_ : Bool) → is_blank b ≡ true → FromGap ts (p + 1) bs us open_ → FromGap ts p (b ∷ bs) us open_
@@ -300,22 +351,22 @@ gap_sound ts p b bs r i h =
 name_sound : (ts : List Token) (q : ℕ) (w : List ℕ) (p b : ℕ) (bs : List ℕ) (r : Reading) → Sounds bs → Leads p b bs (in_name ts q w p b) r → WordClaim is_inner tok.Name ts q w p (b ∷ bs) (out r) (left r)
 name_sound ts q w p b bs r i h =
     by_cond p b bs (is_inner b) _ _ r h (λ e k. word_more is_inner tok.Name ts q w p b bs (out r) (left r) e (i ts (o.Name q (w ++ b ∷ [])) (p + 1) r k.leads))
-      (λ e k. word_stop is_inner tok.Name ts q w p (b ∷ bs) (out r) (left r) e (gap_sound (with_token ts q (tok.Name w)) p b bs r i k))
+    (λ e k. word_stop is_inner tok.Name ts q w p (b ∷ bs) (out r) (left r) e (gap_sound (with_token ts q (tok.Name w)) p b bs r i k))
 
 behind_sound : (f : ℕ → Bool) (made : List ℕ → Tok) (ts : List Token) (q : ℕ) (w : List ℕ) (p b : ℕ) (bs : List ℕ) (r : Reading) → Sounds bs → Leads p b bs (behind (with_token ts q (made w)) p b) r → WordClaim f made ts q w p (b ∷ bs) (out r) (left r)
 behind_sound f made ts q w p b bs r i h =
     by_cond p b bs (is_inner b) _ _ r h (λ e k. stuck p b bs (with_token ts q (made w)) r k)
-      (λ e k. word_stop f made ts q w p (b ∷ bs) (out r) (left r) e (gap_sound (with_token ts q (made w)) p b bs r i k))
+    (λ e k. word_stop f made ts q w p (b ∷ bs) (out r) (left r) e (gap_sound (with_token ts q (made w)) p b bs r i k))
 
 number_sound : (ts : List Token) (q : ℕ) (w : List ℕ) (p b : ℕ) (bs : List ℕ) (r : Reading) → Sounds bs → Leads p b bs (in_number ts q w p b) r → WordClaim is_digit tok.Number ts q w p (b ∷ bs) (out r) (left r)
 number_sound ts q w p b bs r i h =
     by_cond p b bs (is_digit b) _ _ r h (λ e k. word_more is_digit tok.Number ts q w p b bs (out r) (left r) e (i ts (o.Number q (w ++ b ∷ [])) (p + 1) r k.leads))
-      (λ e k. behind_sound is_digit tok.Number ts q w p b bs r i k)
+    (λ e k. behind_sound is_digit tok.Number ts q w p b bs r i k)
 
 hex_sound : (ts : List Token) (q : ℕ) (w : List ℕ) (p b : ℕ) (bs : List ℕ) (r : Reading) → Sounds bs → Leads p b bs (in_hex ts q w p b) r → WordClaim is_hex tok.Hex ts q w p (b ∷ bs) (out r) (left r)
 hex_sound ts q w p b bs r i h =
     by_cond p b bs (is_hex b) _ _ r h (λ e k. word_more is_hex tok.Hex ts q w p b bs (out r) (left r) e (i ts (o.Hex q (w ++ b ∷ [])) (p + 1) r k.leads))
-      (λ e k. behind_sound is_hex tok.Hex ts q w p b bs r i k)
+    (λ e k. behind_sound is_hex tok.Hex ts q w p b bs r i k)
 
 zero_sound : (ts : List Token) (q p b : ℕ) (bs : List ℕ) (r : Reading) → Sounds bs → Leads p b bs (in_zero ts q p b) r → ZeroClaim ts q p (b ∷ bs) (out r) (left r)
 zero_sound ts q p b bs r i h =
@@ -333,16 +384,21 @@ comment_more ts p b bs us open_ h (inr c) = inr ((h, c.0), c.1, c.2)
 comment_sound : (ts : List Token) (p b : ℕ) (bs : List ℕ) (r : Reading) → Sounds bs → Leads p b bs (in_comment ts b) r → CommentClaim ts p (b ∷ bs) (out r) (left r)
 comment_sound ts p b bs r i h =
     by_cond p b bs (b == 10) _ _ r h (λ e k. inl ([], bs, ap (λ (z : ℕ). z ∷ bs) (eqb-true b 10 e), tt, moved ts _ _ bs bs (out r) (left r) (omega arith) refl (i ts o.Gap (p + 1) r k.leads)))
-      (λ e k. comment_more ts p b bs (out r) (left r) e (i ts o.Comment (p + 1) r k.leads))
+    (λ e k. comment_more ts p b bs (out r) (left r) e (i ts o.Comment (p + 1) r k.leads))
 
 text_sound : (ts : List Token) (q : ℕ) (w : List ℕ) (p b : ℕ) (bs : List ℕ) (r : Reading) → Sounds bs → Leads p b bs (in_text ts q w b) r → TextClaim ts q w p (b ∷ bs) (out r) (left r)
 text_sound ts q w p b bs r i h =
     by_cond p b bs (b == 34) _ _ r h
-      (λ e k. inl (record { letters = []; rest = bs; text = ap (λ (z : ℕ). z ∷ bs) (eqb-true b 34 e); are = tt;
-        from = moved _ _ _ bs bs (out r) (left r) (omega arith) refl (subst (λ (z : List ℕ). FromGap (with_token ts q (tok.Text z)) (p + 1) bs (out r) (left r)) (sym (append-nil w)) (i (with_token ts q (tok.Text w)) o.Gap (p + 1) r k.leads)) })) (λ e1 h1.
+    (λ e k. inl (record {
+      letters = [];
+      rest = bs;
+      text = ap (λ (z : ℕ). z ∷ bs) (eqb-true b 34 e);
+      are = tt;
+      from = moved _ _ _ bs bs (out r) (left r) (omega arith) refl (subst (λ (z : List ℕ). FromGap (with_token ts q (tok.Text z)) (p + 1) bs (out r) (left r)) (sym (append-nil w)) (i (with_token ts q (tok.Text w)) o.Gap (p + 1) r k.leads));
+    })) (λ e1 h1.
     by_cond p b bs (b == 92) _ _ r h1 (λ e k. subst (λ (z : ℕ). TextClaim ts q w p (z ∷ bs) (out r) (left r)) (sym (eqb-true b 92 e)) (i ts (o.Escape q w) (p + 1) r k.leads p refl)) (λ e2 h2.
     by_cond p b bs (b == 10) _ _ r h2 (λ e k. stuck p b bs ts r k)
-      (λ e3 k. text_letter (Raw b) ts q w p (p + 1) bs (out r) (left r) (not_no (b == 34 || (b == 92 || b == 10)) (or_no (b == 34) (b == 92 || b == 10) e1 (or_no (b == 92) (b == 10) e2 e3))) (omega arith) (i ts (o.Text q (w ++ b ∷ [])) (p + 1) r k.leads))))
+    (λ e3 k. text_letter (Raw b) ts q w p (p + 1) bs (out r) (left r) (not_no (b == 34 || (b == 92 || b == 10)) (or_no (b == 34) (b == 92 || b == 10) e1 (or_no (b == 92) (b == 10) e2 e3))) (omega arith) (i ts (o.Text q (w ++ b ∷ [])) (p + 1) r k.leads))))
 
 escape_sound : (ts : List Token) (q : ℕ) (w : List ℕ) (p b : ℕ) (bs : List ℕ) (r : Reading) → Sounds bs → Leads p b bs (in_escape ts q w b) r → (n : ℕ) → p ≡ n + 1 → TextClaim ts q w n (92 ∷ b ∷ bs) (out r) (left r)
 escape_sound ts q w p b bs r i h n d =
@@ -360,15 +416,25 @@ escape_low_sound ts q w a p b bs r i h n d x =
 data_sound : (ts : List Token) (q : ℕ) (w : List ℕ) (p b : ℕ) (bs : List ℕ) (r : Reading) → Sounds bs → Leads p b bs (in_data ts q w b) r → MoreClaim ts q w p (b ∷ bs) (out r) (left r)
 data_sound ts q w p b bs r i h =
     by_cond p b bs (b == 34) _ _ r h
-      (λ e k. inl (record { pairs = []; rest = bs; text = ap (λ (z : ℕ). z ∷ bs) (eqb-true b 34 e); are = tt;
-        from = moved _ _ _ bs bs (out r) (left r) (omega arith) refl (subst (λ (z : List ℕ). FromGap (with_token ts q (tok.Data z)) (p + 1) bs (out r) (left r)) (sym (append-nil w)) (i (with_token ts q (tok.Data w)) o.Gap (p + 1) r k.leads)) })) (λ _ h1.
+    (λ e k. inl (record {
+      pairs = [];
+      rest = bs;
+      text = ap (λ (z : ℕ). z ∷ bs) (eqb-true b 34 e);
+      are = tt;
+      from = moved _ _ _ bs bs (out r) (left r) (omega arith) refl (subst (λ (z : List ℕ). FromGap (with_token ts q (tok.Data z)) (p + 1) bs (out r) (left r)) (sym (append-nil w)) (i (with_token ts q (tok.Data w)) o.Gap (p + 1) r k.leads));
+    })) (λ _ h1.
     by_cond p b bs (is_hex b) _ _ r h1 (λ e k. low_more 0 b ts q w (p + 1) p bs (out r) (left r) e (omega arith) (i ts (o.DataLow q w b) (p + 1) r k.leads)) (λ _ h2. stuck p b bs ts r h2))
 
 begin_sound : (ts : List Token) (q p b : ℕ) (bs : List ℕ) (r : Reading) → Sounds bs → Leads p b bs (in_data ts q [] b) r → BeginClaim ts q p (b ∷ bs) (out r) (left r)
 begin_sound ts q p b bs r i h =
     by_cond p b bs (b == 34) _ _ r h
-      (λ e k. inl (record { pairs = []; rest = bs; text = ap (λ (z : ℕ). z ∷ bs) (eqb-true b 34 e); are = tt;
-        from = moved _ _ _ bs bs (out r) (left r) (omega arith) refl (i (with_token ts q (tok.Data [])) o.Gap (p + 1) r k.leads) })) (λ _ h1.
+    (λ e k. inl (record {
+      pairs = [];
+      rest = bs;
+      text = ap (λ (z : ℕ). z ∷ bs) (eqb-true b 34 e);
+      are = tt;
+      from = moved _ _ _ bs bs (out r) (left r) (omega arith) refl (i (with_token ts q (tok.Data [])) o.Gap (p + 1) r k.leads);
+    })) (λ _ h1.
     by_cond p b bs (is_hex b) _ _ r h1 (λ e k. low_begin b ts q p bs (out r) (left r) e (i ts (o.DataLow q [] b) (p + 1) r k.leads)) (λ _ h2. stuck p b bs ts r h2))
 
 data_low_sound : (ts : List Token) (q : ℕ) (w : List ℕ) (a p b : ℕ) (bs : List ℕ) (r : Reading) → Sounds bs → Leads p b bs (in_data_low ts q w a b) r → LowClaim ts q w a p (b ∷ bs) (out r) (left r)
@@ -386,7 +452,7 @@ spaces_push (suc k) bs = ap (λ (z : List ℕ). 32 ∷ z) (spaces_push k bs)
 space_sound : (ts : List Token) (q : ℕ) (w : List ℕ) (p b : ℕ) (bs : List ℕ) (r : Reading) → Sounds bs → Leads p b bs (in_space ts q w b) r → (k n : ℕ) → p ≡ n + k → MoreClaim ts q w n (spaces k ++ b ∷ bs) (out r) (left r)
 space_sound ts q w p b bs r i h k n d =
     by_cond p b bs (b == 32) _ _ r h
-      (λ e l. subst (λ (z : List ℕ). MoreClaim ts q w n z (out r) (left r)) (spaces_push k bs ∙ ap (λ (z : ℕ). spaces k ++ z ∷ bs) (sym (eqb-true b 32 e))) (i ts (o.DataSpace q w) (p + 1) r l.leads (suc k) n (omega arith))) (λ _ h1.
+    (λ e l. subst (λ (z : List ℕ). MoreClaim ts q w n z (out r) (left r)) (spaces_push k bs ∙ ap (λ (z : ℕ). spaces k ++ z ∷ bs) (sym (eqb-true b 32 e))) (i ts (o.DataSpace q w) (p + 1) r l.leads (suc k) n (omega arith))) (λ _ h1.
     by_cond p b bs (is_hex b) _ _ r h1 (λ e l. low_more k b ts q w (p + 1) n bs (out r) (left r) e (omega arith) (i ts (o.DataLow q w b) (p + 1) r l.leads)) (λ _ h2. stuck p b bs ts r h2))
 
 -- ---- every state

@@ -1,9 +1,8 @@
 -- Token lists against marks.
-use Rattle.std.proofs.Common.{◌≡◌, ℕ, List, [], ◌∷◌, ◌++◌, refl, sym, ◌∙◌, ap, subst, append_assoc, inl, inr}
-use Rattle.capnp_text.specs.declared.token.Tok.{Tok}
+use Rattle.std.proofs.Common.{◌≡◌, List, [], ◌∷◌, ◌++◌, refl, sym, ◌∙◌, ap, subst, append_assoc, inl, inr}
 use Rattle.capnp_text.specs.declared.token.Tok.TheVariants.{Comma}
 use Rattle.capnp_text.specs.declared.token.Token.{Token}
-use Rattle.capnp_text.specs.Marks.{Mark, Just, At, MayComma, OfMark, Matches}
+use Rattle.capnp_text.specs.Marks.{Mark, Just, MayComma, OfMark, Matches}
 
 pub matches_append : (a b : List Mark) (x y : List Token) → Matches a x → Matches b y → Matches (a ++ b) (x ++ y)
 matches_append [] b x y e h = subst (λ (z : List Token). Matches b (z ++ y)) (sym e) h
@@ -27,14 +26,18 @@ pub record Covers (a b : List Mark) : Type 0 where
   pub covers : (ts : List Token) → Matches a ts → Matches b ts
 
 pub covers_behind : (a b c : List Mark) → Covers b c → Covers (a ++ b) (a ++ c)
-covers_behind a b c f = record { covers = λ ts h.
-    let r : Split a b ts = split a b ts h in
-    subst (Matches (a ++ c)) (sym r.is) (matches_append a c r.us r.vs r.front (f.covers r.vs r.back)) }
+covers_behind a b c f = record {
+  covers = λ ts h.
+      let r : Split a b ts = split a b ts h in
+      subst (Matches (a ++ c)) (sym r.is) (matches_append a c r.us r.vs r.front (f.covers r.vs r.back));
+}
 
 pub covers_before : (a b c : List Mark) → Covers a b → Covers (a ++ c) (b ++ c)
-covers_before a b c f = record { covers = λ ts h.
-    let r : Split a c ts = split a c ts h in
-    subst (Matches (b ++ c)) (sym r.is) (matches_append b c r.us r.vs (f.covers r.us r.front) r.back) }
+covers_before a b c f = record {
+  covers = λ ts h.
+      let r : Split a c ts = split a c ts h in
+      subst (Matches (b ++ c)) (sym r.is) (matches_append b c r.us r.vs (f.covers r.us r.front) r.back);
+}
 
 pub covers_same : (a b : List Mark) → a ≡ b → Covers a b
 covers_same a b e = record { covers = λ ts h. subst (λ (z : List Mark). Matches z ts) e h }

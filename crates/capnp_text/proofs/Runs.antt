@@ -1,5 +1,5 @@
 -- Runs of any step.
-use Rattle.std.proofs.Common.{◌≡◌, List, [], ◌∷◌, ◌++◌, Result, Ok, Err, refl, sym, ap, ◌∙◌, subst}
+use Rattle.std.proofs.Common.{◌≡◌, List, [], ◌∷◌, ◌++◌, Result, Ok, Err, refl, ap, ◌∙◌, subst}
 use Rattle.capnp_text.specs.Run.{Stuck, taken, run}
 
 module _ {S T K : Type 0} (step : S → T → Result S K) where

@@ -25,9 +25,9 @@ use Rattle.capnp_text.specs.declared.machine.State.{State}
 use Rattle.capnp_text.specs.declared.machine.Refusal.{Refusal}
 use Rattle.capnp_text.specs.declared.machine.Refusal.TheVariants as refusal
 use Rattle.capnp_text.specs.Marks.{Mark, Just, At as Fixed, MayComma, OfMark, Matches}
-use Rattle.capnp_text.specs.Grammar.{keyword, name, text, more, listed, dotted, of_value, of_field, of_type, of_decl, of_file}
+use Rattle.capnp_text.specs.Grammar.{keyword, name, text, more, listed, dotted, of_value, of_field, of_type, of_file}
 use Rattle.capnp_text.specs.Run.{Stuck, taken, run}
-use Rattle.capnp_text.specs.Machine.{Step, to, stay, bad, word, field, embed, with_part, if_room, on_word, begin, after_const, after_item, after_field, after, on_decl, begin_decl, on_id, on_id_end, on_using_name, on_using_equals, on_import, on_using_import, on_using_path, on_using_end, on_const_name, on_const_colon, on_type, on_typed, on_embed, on_dot, on_item, on_name, on_equals, in_value, step_at, step}
+use Rattle.capnp_text.specs.Machine.{Step, stay, word, field, embed, with_part, on_word, begin, after_const, after_item, after_field, after, on_decl, begin_decl, on_id, on_id_end, on_using_name, on_using_equals, on_import, on_using_import, on_using_path, on_using_end, on_const_name, on_const_colon, on_type, on_typed, on_embed, on_dot, on_item, on_name, on_equals, in_value, step_at, step}
 use Rattle.capnp_text.proofs.MarkLemmas.{matches_append, Covers, covers_behind, covers_before, covers_same, covers_trans, may_comma, no_comma, one}
 use Rattle.capnp_text.proofs.Equations.{of_text, of_data, of_number, of_word, of_constant, of_embed, of_struct, of_list, of_a_field}
 
@@ -144,8 +144,8 @@ last_more : (ms : List (List Mark)) (m : List Mark) → Covers (Just tok.Comma �
 last_more [] m = covers_behind (Just tok.Comma ∷ []) m (m ++ MayComma ∷ []) (nil_may m)
 last_more (n ∷ ms) m =
     covers_trans _ (Just tok.Comma ∷ (n ++ Just tok.Comma ∷ (commaed ms ++ m))) _
-      (covers_same _ _ (ap (λ (z : List Mark). Just tok.Comma ∷ z) (append_assoc n (Just tok.Comma ∷ commaed ms) m)))
-      (covers_behind (Just tok.Comma ∷ []) (n ++ Just tok.Comma ∷ (commaed ms ++ m)) (n ++ more (ms ++ m ∷ [])) (covers_behind n (Just tok.Comma ∷ (commaed ms ++ m)) (more (ms ++ m ∷ [])) (last_more ms m)))
+    (covers_same _ _ (ap (λ (z : List Mark). Just tok.Comma ∷ z) (append_assoc n (Just tok.Comma ∷ commaed ms) m)))
+    (covers_behind (Just tok.Comma ∷ []) (n ++ Just tok.Comma ∷ (commaed ms ++ m)) (n ++ more (ms ++ m ∷ [])) (covers_behind n (Just tok.Comma ∷ (commaed ms ++ m)) (more (ms ++ m ∷ [])) (last_more ms m)))
 
 last_listed : (ms : List (List Mark)) (m : List Mark) → Covers (commaed ms ++ m) (listed (ms ++ m ∷ []))
 last_listed [] m = nil_may m
@@ -180,7 +180,7 @@ close_none o c x = covers_behind (o ∷ []) (commaed x ++ c ∷ []) (listed x ++
 field_front : (p : ℕ) (n : Placed) (xs : List Field) (v : Value) → frame_marks (frame.Struct p xs n) ++ of_value v ≡ Fixed p tok.OpenParen ∷ (commaed (map of_field xs) ++ of_field (field n v))
 field_front p n xs v =
     ap (λ (z : List Mark). Fixed p tok.OpenParen ∷ z)
-      (append_assoc (commaed (map of_field xs)) (name n ∷ Just tok.Equals ∷ []) (of_value v) ∙ ap (λ (z : List Mark). commaed (map of_field xs) ++ z) (sym (of_a_field n v)))
+    (append_assoc (commaed (map of_field xs)) (name n ∷ Just tok.Equals ∷ []) (of_value v) ∙ ap (λ (z : List Mark). commaed (map of_field xs) ++ z) (sym (of_a_field n v)))
 
 -- ---- a value is complete
 
@@ -199,7 +199,7 @@ item_comma p vs v = comma_item (Fixed p tok.OpenBracket) (map of_value vs) (of_v
 item_close : (p : ℕ) (vs : List Value) (v : Value) → Covers ((frame_marks (frame.List p vs) ++ of_value v) ++ Just tok.CloseBracket ∷ []) (of_value (value.List p (vs ++ v ∷ [])))
 item_close p vs v =
     covers_trans _ _ _ (close_item (Fixed p tok.OpenBracket) (Just tok.CloseBracket) (map of_value vs) (of_value v))
-      (covers_same _ _ (ap (λ (z : List (List Mark)). Fixed p tok.OpenBracket ∷ (listed z ++ Just tok.CloseBracket ∷ [])) (sym (map-append of_value vs (v ∷ []))) ∙ sym (of_list p (vs ++ v ∷ []))))
+    (covers_same _ _ (ap (λ (z : List (List Mark)). Fixed p tok.OpenBracket ∷ (listed z ++ Just tok.CloseBracket ∷ [])) (sym (map-append of_value vs (v ∷ []))) ∙ sym (of_list p (vs ++ v ∷ []))))
 
 field_comma : (p : ℕ) (n : Placed) (xs : List Field) (v : Value) → (frame_marks (frame.Struct p xs n) ++ of_value v) ++ Just tok.Comma ∷ [] ≡ spot_marks (spot.Name p (xs ++ field n v ∷ []))
 field_comma p n xs v =
@@ -208,8 +208,8 @@ field_comma p n xs v =
 field_close : (p : ℕ) (n : Placed) (xs : List Field) (v : Value) → Covers ((frame_marks (frame.Struct p xs n) ++ of_value v) ++ Just tok.CloseParen ∷ []) (of_value (value.Struct p (xs ++ field n v ∷ [])))
 field_close p n xs v =
     covers_trans _ ((Fixed p tok.OpenParen ∷ (commaed (map of_field xs) ++ of_field (field n v))) ++ Just tok.CloseParen ∷ []) _ (covers_same _ _ (ap (λ (z : List Mark). z ++ Just tok.CloseParen ∷ []) (field_front p n xs v)))
-      (covers_trans _ _ _ (close_item (Fixed p tok.OpenParen) (Just tok.CloseParen) (map of_field xs) (of_field (field n v)))
-        (covers_same _ _ (ap (λ (z : List (List Mark)). Fixed p tok.OpenParen ∷ (listed z ++ Just tok.CloseParen ∷ [])) (sym (map-append of_field xs (field n v ∷ []))) ∙ sym (of_struct p (xs ++ field n v ∷ [])))))
+    (covers_trans _ _ _ (close_item (Fixed p tok.OpenParen) (Just tok.CloseParen) (map of_field xs) (of_field (field n v)))
+    (covers_same _ _ (ap (λ (z : List (List Mark)). Fixed p tok.OpenParen ∷ (listed z ++ Just tok.CloseParen ∷ [])) (sym (map-append of_field xs (field n v ∷ []))) ∙ sym (of_struct p (xs ++ field n v ∷ [])))))
 
 Grows-const : (ds : List Decl) (h : Head) (v : Value) (p : ℕ) (t : Tok) → Grows (stem ds h [] ++ of_value v) (placed p t) (after_const ds h v t)
 Grows-const ds h v p tok.Semicolon = grows (stem ds h [] ++ of_value v) _ (Just tok.Semicolon) (placed p tok.Semicolon) (covers_same _ _ (const_end ds h v)) (p, refl)
@@ -255,7 +255,7 @@ Grows-name ds h fs q xs p _ = tt
 Grows-equals : (ds : List Decl) (h : Head) (fs : List Frame) (q : ℕ) (xs : List Field) (n : Placed) (p : ℕ) (t : Tok) → Grows (stem ds h fs ++ spot_marks (spot.Equals q xs n)) (placed p t) (on_equals ds h fs q xs n t)
 Grows-equals ds h fs q xs n p tok.Equals =
     grows (stem ds h fs ++ spot_marks (spot.Equals q xs n)) (stem ds h (frame.Struct q xs n ∷ fs) ++ []) (Just tok.Equals) (placed p tok.Equals)
-      (covers_same _ _ (simp (append_assoc, append-nil))) (p, refl)
+    (covers_same _ _ (simp (append_assoc, append-nil))) (p, refl)
 Grows-equals ds h fs q xs n p _ = tt
 
 Grows-value : (most : ℕ) (ds : List Decl) (h : Head) (fs : List Frame) (s : Spot) (p : ℕ) (t : Tok) → Grows (stem ds h fs ++ spot_marks s) (placed p t) (in_value most ds h fs s p t)

@@ -1,5 +1,5 @@
 -- Where one more bracket may be open: the same steps, and one more where a bracket was too deep.
-use Rattle.std.proofs.Common.{◌≡◌, ℕ, ◌+◌, ◌<◌, ◌≤◌, Bool, true, false, cond, List, [], ◌∷◌, ◌++◌, length, Result, Ok, Err, refl, sym, ap, ◌∙◌, subst, arith}
+use Rattle.std.proofs.Common.{◌≡◌, ℕ, ◌+◌, ◌<◌, ◌≤◌, Bool, true, false, cond, List, [], ◌∷◌, length, Result, Ok, Err, refl, sym, ap, ◌∙◌, arith}
 use Rattle.std.specs.Prelude.{codes, nat_lt}
 use Rattle.std.specs.Str.{bytes_eq}
 use Rattle.std.proofs.lemmas.Bool.{lt-ltb, ltb-true}
@@ -22,8 +22,8 @@ use Rattle.capnp_text.specs.declared.machine.State.{State}
 use Rattle.capnp_text.specs.declared.machine.Refusal.{Refusal}
 use Rattle.capnp_text.specs.declared.machine.Refusal.TheVariants as refusal
 use Rattle.capnp_text.specs.Run.{Stuck, taken, run}
-use Rattle.capnp_text.specs.Machine.{Step, stay, embed, if_room, on_word, begin, after_const, after_item, after_field, after, on_decl, begin_decl, on_id, on_id_end, on_using_name, on_using_equals, on_import, on_using_import, on_using_path, on_using_end, on_const_name, on_const_colon, on_type, on_typed, on_embed, on_dot, on_item, on_name, on_equals, in_value, step_at, step, start, read}
-use Rattle.capnp_text.proofs.Bounds.{FineFrames, FineSpot, FineAt, Fine, FineStep, Fine-step, fine_start}
+use Rattle.capnp_text.specs.Machine.{Step, embed, if_room, on_word, begin, after_const, after_item, after_field, after, on_decl, begin_decl, on_id, on_id_end, on_using_name, on_using_equals, on_import, on_using_import, on_using_path, on_using_end, on_const_name, on_const_colon, on_type, on_typed, on_embed, on_dot, on_item, on_name, on_equals, in_value, step_at, step, start, read}
+use Rattle.capnp_text.proofs.Bounds.{FineSpot, FineAt, Fine, FineStep, Fine-step, fine_start}
 
 -- ---- steps that refuse as a bad token alone
 

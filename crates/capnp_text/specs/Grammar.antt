@@ -1,6 +1,5 @@
 -- The grammar: the tokens of a tree.
-use Rattle.std.specs.Prelude.{◌≡◌, ℕ, ◌+◌, ◌≤◌, max, List, [], ◌∷◌, ◌++◌, codes, flat_map}
-use Rattle.capnp_text.specs.declared.token.Tok.{Tok}
+use Rattle.std.specs.Prelude.{ℕ, ◌+◌, ◌≤◌, max, List, [], ◌∷◌, ◌++◌, codes, flat_map}
 use Rattle.capnp_text.specs.declared.token.Tok.TheVariants as tok
 use Rattle.capnp_text.specs.declared.token.Token.{Token}
 use Rattle.capnp_text.specs.declared.tree.Placed.{Placed}

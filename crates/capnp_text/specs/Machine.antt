@@ -1,5 +1,5 @@
 -- What each token does, where so many brackets may be open.
-use Rattle.std.specs.Prelude.{◌≡◌, ℕ, nat_lt, Bool, true, false, cond, List, [], ◌∷◌, ◌++◌, length, codes, Result, Ok, Err}
+use Rattle.std.specs.Prelude.{ℕ, nat_lt, Bool, true, false, cond, List, [], ◌∷◌, ◌++◌, length, codes, Result, Ok, Err}
 use Rattle.std.specs.Str.{bytes_eq}
 use Rattle.capnp_text.specs.declared.token.Tok.{Tok}
 use Rattle.capnp_text.specs.declared.token.Tok.TheVariants as tok

@@ -1,5 +1,5 @@
 -- Items that are taken one by one.
-use Rattle.std.specs.Prelude.{ℕ, List, [], ◌∷◌, Result, Ok, Err}
+use Rattle.std.specs.Prelude.{List, [], ◌∷◌, Result, Ok, Err}
 
 -- where they stop: why, the item that is not taken, and what follows
 pub record Stuck (T K : Type 0) : Type 0 where

@@ -34,10 +34,10 @@ signed ts p None = refused ts
 abbrev pub gap : List Token → ℕ → ℕ → Scanned
 gap ts p b =
     cond (is_blank b) (to ts o.Gap)
-      (cond (is_letter b) (to ts (o.Name p (b ∷ [])))
-        (cond (b == 48) (to ts (o.Zero p))
-          (cond (is_digit b) (to ts (o.Number p (b ∷ [])))
-            (cond (b == 35) (to ts o.Comment) (cond (b == 34) (to ts (o.Text p [])) (signed ts p (sign b)))))))
+    (cond (is_letter b) (to ts (o.Name p (b ∷ [])))
+    (cond (b == 48) (to ts (o.Zero p))
+    (cond (is_digit b) (to ts (o.Number p (b ∷ [])))
+    (cond (b == 35) (to ts o.Comment) (cond (b == 34) (to ts (o.Text p [])) (signed ts p (sign b)))))))
 
 -- behind a number
 abbrev pub behind : List Token → ℕ → ℕ → Scanned
@@ -61,7 +61,7 @@ in_hex ts q w p b = cond (is_hex b) (to ts (o.Hex q (w ++ b ∷ []))) (behind (w
 abbrev pub in_text : List Token → ℕ → List ℕ → ℕ → Scanned
 in_text ts q w b =
     cond (b == 34) (to (with_token ts q (tok.Text w)) o.Gap)
-      (cond (b == 92) (to ts (o.Escape q w)) (cond (b == 10) (refused ts) (to ts (o.Text q (w ++ b ∷ [])))))
+    (cond (b == 92) (to ts (o.Escape q w)) (cond (b == 10) (refused ts) (to ts (o.Text q (w ++ b ∷ [])))))
 
 abbrev pub in_escape : List Token → ℕ → List ℕ → ℕ → Scanned
 in_escape ts q w b = cond (b == 120) (to ts (o.EscapeHex q w)) (cond (is_escape b) (to ts (o.Text q (w ++ escaped b ∷ []))) (refused ts))

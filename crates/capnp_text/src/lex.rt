@@ -65,10 +65,7 @@ fn byte_of(high: u8, low: u8) -> u8
 fn is_escape(byte: u8) -> bool
     ensures { result ≡ chars.is_escape byte }
 {
-    byte == b'n'
-        || byte == b't'
-        || byte == b'r'
-        || (byte == b'\\' || byte == b'"' || byte == b'\'')
+    byte == b'n' || byte == b't' || byte == b'r' || (byte == b'\\' || byte == b'"' || byte == b'\'')
 }
 
 /// What it stands for there.
@@ -306,7 +303,10 @@ fn in_escape_low(
     ensures { Scans (spec.in_escape_low tokens begin text high byte) result }
 {
     if is_hex(byte) {
-        to(tokens, Open::Text(begin, with_byte(text, byte_of(high, byte))?))
+        to(
+            tokens,
+            Open::Text(begin, with_byte(text, byte_of(high, byte))?),
+        )
     } else {
         refuse(tokens)
     }
@@ -334,7 +334,10 @@ fn in_data_low(
     ensures { Scans (spec.in_data_low tokens begin bytes high byte) result }
 {
     if is_hex(byte) {
-        to(tokens, Open::DataPair(begin, with_byte(bytes, byte_of(high, byte))?))
+        to(
+            tokens,
+            Open::DataPair(begin, with_byte(bytes, byte_of(high, byte))?),
+        )
     } else {
         refuse(tokens)
     }

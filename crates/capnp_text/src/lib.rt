@@ -8,8 +8,10 @@ mod reader;
 mod scan;
 mod stack;
 mod steps;
+#[cfg(test)]
+mod tests;
 mod token;
 mod tree;
 
-pub use reader::{parse, ParseEnd, TextFault, TextKind};
+pub use reader::{ParseEnd, TextFault, TextKind, parse};
 pub use tree::{Decl, Field, File, Placed, Value};

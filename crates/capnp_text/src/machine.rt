@@ -93,6 +93,7 @@ pub enum StepEnd {
 impl From<NoMemory> for StepEnd {
     ghost use Rattle.std.specs.Prelude.{◌≡◌};
     ghost use Rattle.capnp_text.specs.declared.machine.StepEnd.TheVariants as ends;
+
     ghost from_gives = { λ _ e. e ≡ ends.NoMemory };
 
     fn from(_error: NoMemory) -> StepEnd {

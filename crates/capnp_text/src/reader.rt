@@ -50,6 +50,7 @@ pub enum ParseEnd {
 impl From<NoMemory> for ParseEnd {
     ghost use Rattle.std.specs.Prelude.{◌≡◌};
     ghost use Rattle.capnp_text.specs.declared.reader.ParseEnd.TheVariants as ends;
+
     ghost from_gives = { λ _ e. e ≡ ends.NoMemory };
 
     fn from(_error: NoMemory) -> ParseEnd {

@@ -51,6 +51,7 @@ pub enum ScanEnd {
 impl From<NoMemory> for ScanEnd {
     ghost use Rattle.std.specs.Prelude.{◌≡◌};
     ghost use Rattle.capnp_text.specs.declared.scan.ScanEnd.TheVariants as ends;
+
     ghost from_gives = { λ _ e. e ≡ ends.NoMemory };
 
     fn from(_error: NoMemory) -> ScanEnd {

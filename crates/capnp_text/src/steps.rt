@@ -254,7 +254,12 @@ fn on_name(
 {
     let Token { place, tok } = token;
     match tok {
-        Tok::CloseParen => stay(decls, head, frames, Spot::Done(Value::Struct(opened, fields))),
+        Tok::CloseParen => stay(
+            decls,
+            head,
+            frames,
+            Spot::Done(Value::Struct(opened, fields)),
+        ),
         Tok::Name(bytes) => {
             let name = Placed { place, bytes };
             stay(decls, head, frames, Spot::Equals(opened, fields, name))
@@ -457,12 +462,7 @@ fn on_const_name(decls: Seq<Decl>, token: Token) -> Result<State, StepEnd>
     }
 }
 
-fn on_const_colon(
-    alloc: Global,
-    decls: Seq<Decl>,
-    name: Placed,
-    tok: Tok,
-) -> Result<State, StepEnd>
+fn on_const_colon(alloc: Global, decls: Seq<Decl>, name: Placed, tok: Tok) -> Result<State, StepEnd>
     ensures { Steps (spec.on_const_colon decls name tok) result }
 {
     match tok {

@@ -41,7 +41,10 @@ pub struct Field {
 #[derive(Debug, Drop)]
 pub enum Decl {
     /// `using name = import "path";`
-    Using { name: Placed, path: Placed },
+    Using {
+        name: Placed,
+        path: Placed,
+    },
     /// `@0x1f;`: the digits, with the place of their `0x`
     Id(Placed),
     /// `const name :Type = value;`: the type's names between its points
