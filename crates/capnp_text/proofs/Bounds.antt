@@ -4,8 +4,8 @@ use Rattle.std.specs.Prelude.{codes, nat_lt}
 use Rattle.std.specs.Str.{bytes_eq}
 use Rattle.std.proofs.lemmas.Bool.{ltb-true}
 use Rattle.std.proofs.lemmas.List.{map-append}
-use Rattle.capnp_text.specs.declared.token.Tok.{Tok}
-use Rattle.capnp_text.specs.declared.token.Tok.TheVariants as tok
+use Rattle.capnp_text.specs.declared.token.TokenKind.{TokenKind}
+use Rattle.capnp_text.specs.declared.token.TokenKind.TheVariants as tok
 use Rattle.capnp_text.specs.declared.token.Token.{Token}
 use Rattle.capnp_text.specs.declared.tree.Placed.{Placed}
 use Rattle.capnp_text.specs.declared.tree.Value.{Value}
@@ -60,7 +60,7 @@ FineFrames most (frame.List p vs ∷ fs) = Shallow most (length fs + 1) vs × Fi
 FineFrames most (frame.Struct p xs n ∷ fs) = ShallowFields most (length fs + 1) xs × FineFrames most fs
 
 abbrev pub FineAt : ℕ → At → Type 0
-FineAt most (at.In h fs s) = HasParts h.ty × FineFrames most fs × FineSpot most (length fs) s
+FineAt most (at.In h fs s) = HasParts h.type_ × FineFrames most fs × FineSpot most (length fs) s
 FineAt most _ = Unit {0}
 
 pub record Fine (most : ℕ) (s : State) : Type 0 where
@@ -91,10 +91,10 @@ module _ (most : ℕ) where
 
   -- ---- values
 
-  stays : (ds : List Decl) (h : Head) (fs : List Frame) (s : Spot) → AllFit most ds → HasParts h.ty → FineFrames most fs → FineSpot most (length fs) s → FineStep most (stay ds h fs s)
+  stays : (ds : List Decl) (h : Head) (fs : List Frame) (s : Spot) → AllFit most ds → HasParts h.type_ → FineFrames most fs → FineSpot most (length fs) s → FineStep most (stay ds h fs s)
   stays ds h fs s a b c d = record { decls = a; here = (b, c, d) }
 
-  Fine-word : (ds : List Decl) (h : Head) (fs : List Frame) (p : ℕ) (b : List ℕ) (r : Bool) → AllFit most ds → HasParts h.ty → FineFrames most fs → length fs ≤ most → FineStep most (on_word ds h fs p b r)
+  Fine-word : (ds : List Decl) (h : Head) (fs : List Frame) (p : ℕ) (b : List ℕ) (r : Bool) → AllFit most ds → HasParts h.type_ → FineFrames most fs → length fs ≤ most → FineStep most (on_word ds h fs p b r)
   Fine-word ds h fs p b true a c d e = stays ds h fs (spot.Embed p) a c d e
   Fine-word ds h fs p b false a c d e = stays ds h fs (spot.Done (value.Word (word p b))) a c d (leaf (length fs) (value.Word (word p b)) (depth_word (word p b)) e)
 
@@ -102,7 +102,7 @@ module _ (most : ℕ) where
   Fine-room fs o true e f = f (e refl)
   Fine-room fs o false e f = tt
 
-  Fine-begin : (ds : List Decl) (h : Head) (fs : List Frame) (p : ℕ) (t : Tok) → AllFit most ds → HasParts h.ty → FineFrames most fs → length fs ≤ most → FineStep most (begin most ds h fs p t)
+  Fine-begin : (ds : List Decl) (h : Head) (fs : List Frame) (p : ℕ) (t : TokenKind) → AllFit most ds → HasParts h.type_ → FineFrames most fs → length fs ≤ most → FineStep most (begin most ds h fs p t)
   Fine-begin ds h fs p (tok.Text b) a c d e = stays ds h fs (spot.Done (value.Text (word p b))) a c d (leaf (length fs) (value.Text (word p b)) (depth_text (word p b)) e)
   Fine-begin ds h fs p (tok.Data b) a c d e = stays ds h fs (spot.Done (value.Data (word p b))) a c d (leaf (length fs) (value.Data (word p b)) (depth_data (word p b)) e)
   Fine-begin ds h fs p (tok.Number b) a c d e = stays ds h fs (spot.Done (value.Number (word p b))) a c d (leaf (length fs) (value.Number (word p b)) (depth_number (word p b)) e)
@@ -112,47 +112,47 @@ module _ (most : ℕ) where
   Fine-begin ds h fs p tok.OpenBracket a c d e = Fine-room fs (stay ds h fs (spot.Item p [])) (nat_lt (length fs) most) (ltb-true (length fs) most) (λ l. stays ds h fs (spot.Item p []) a c d (record { below = omega arith }))
   Fine-begin ds h fs p _ a c d e = tt
 
-  Fine-const : (ds : List Decl) (h : Head) (v : Value) (t : Tok) → AllFit most ds → HasParts h.ty → depth v ≤ most → FineStep most (after_const ds h v t)
-  Fine-const ds h v tok.Semicolon a c e = record { decls = AllFit-push most ds (decl.Const h.name h.ty v) a (c, e); here = tt }
+  Fine-const : (ds : List Decl) (h : Head) (v : Value) (t : TokenKind) → AllFit most ds → HasParts h.type_ → depth v ≤ most → FineStep most (after_const ds h v t)
+  Fine-const ds h v tok.Semicolon a c e = record { decls = AllFit-push most ds (decl.Const h.name h.type_ v) a (c, e); here = tt }
   Fine-const ds h v _ a c e = tt
 
-  Fine-list : (ds : List Decl) (h : Head) (fs : List Frame) (q : ℕ) (vs : List Value) (t : Tok) → AllFit most ds → HasParts h.ty → FineFrames most fs → Shallow most (length fs + 1) vs → FineStep most (after_item ds h fs q vs t)
+  Fine-list : (ds : List Decl) (h : Head) (fs : List Frame) (q : ℕ) (vs : List Value) (t : TokenKind) → AllFit most ds → HasParts h.type_ → FineFrames most fs → Shallow most (length fs + 1) vs → FineStep most (after_item ds h fs q vs t)
   Fine-list ds h fs q vs tok.Comma a c d e = stays ds h fs (spot.Item q vs) a c d e
   Fine-list ds h fs q vs tok.CloseBracket a c d e = stays ds h fs (spot.Done (value.List q vs)) a c d (list_depth (length fs) q vs e)
   Fine-list ds h fs q vs _ a c d e = tt
 
-  Fine-struct : (ds : List Decl) (h : Head) (fs : List Frame) (q : ℕ) (xs : List Field) (t : Tok) → AllFit most ds → HasParts h.ty → FineFrames most fs → ShallowFields most (length fs + 1) xs → FineStep most (after_field ds h fs q xs t)
+  Fine-struct : (ds : List Decl) (h : Head) (fs : List Frame) (q : ℕ) (xs : List Field) (t : TokenKind) → AllFit most ds → HasParts h.type_ → FineFrames most fs → ShallowFields most (length fs + 1) xs → FineStep most (after_field ds h fs q xs t)
   Fine-struct ds h fs q xs tok.Comma a c d e = stays ds h fs (spot.Name q xs) a c d e
   Fine-struct ds h fs q xs tok.CloseParen a c d e = stays ds h fs (spot.Done (value.Struct q xs)) a c d (struct_depth (length fs) q xs e)
   Fine-struct ds h fs q xs _ a c d e = tt
 
-  Fine-after : (ds : List Decl) (h : Head) (fs : List Frame) (v : Value) (t : Tok) → AllFit most ds → HasParts h.ty → FineFrames most fs → length fs + depth v ≤ most → FineStep most (after ds h fs v t)
+  Fine-after : (ds : List Decl) (h : Head) (fs : List Frame) (v : Value) (t : TokenKind) → AllFit most ds → HasParts h.type_ → FineFrames most fs → length fs + depth v ≤ most → FineStep most (after ds h fs v t)
   Fine-after ds h [] v t a c d e = Fine-const ds h v t a c (omega arith)
   Fine-after ds h (frame.List q vs ∷ fs) v t a c d e = Fine-list ds h fs q (vs ++ v ∷ []) t a c d.1 (with_value (length fs + 1) vs v d.0 (omega arith))
   Fine-after ds h (frame.Struct q xs n ∷ fs) v t a c d e = Fine-struct ds h fs q (xs ++ field n v ∷ []) t a c d.1 (with_field (length fs + 1) xs n v d.0 (omega arith))
 
-  Fine-embed : (ds : List Decl) (h : Head) (fs : List Frame) (q p : ℕ) (t : Tok) → AllFit most ds → HasParts h.ty → FineFrames most fs → length fs ≤ most → FineStep most (on_embed ds h fs q p t)
+  Fine-embed : (ds : List Decl) (h : Head) (fs : List Frame) (q p : ℕ) (t : TokenKind) → AllFit most ds → HasParts h.type_ → FineFrames most fs → length fs ≤ most → FineStep most (on_embed ds h fs q p t)
   Fine-embed ds h fs q p (tok.Text b) a c d e = stays ds h fs (spot.Done (value.Embed q (word p b))) a c d (leaf (length fs) (value.Embed q (word p b)) (depth_embed q (word p b)) e)
   Fine-embed ds h fs q p t a c d e = Fine-after ds h fs (value.Word (embed q)) t a c d (leaf (length fs) (value.Word (embed q)) (depth_word (embed q)) e)
 
-  Fine-dot : (ds : List Decl) (h : Head) (fs : List Frame) (q p : ℕ) (t : Tok) → AllFit most ds → HasParts h.ty → FineFrames most fs → length fs ≤ most → FineStep most (on_dot ds h fs q p t)
+  Fine-dot : (ds : List Decl) (h : Head) (fs : List Frame) (q p : ℕ) (t : TokenKind) → AllFit most ds → HasParts h.type_ → FineFrames most fs → length fs ≤ most → FineStep most (on_dot ds h fs q p t)
   Fine-dot ds h fs q p (tok.Name b) a c d e = stays ds h fs (spot.Done (value.Constant q (word p b))) a c d (leaf (length fs) (value.Constant q (word p b)) (depth_constant q (word p b)) e)
   Fine-dot ds h fs q p _ a c d e = tt
 
-  Fine-item : (ds : List Decl) (h : Head) (fs : List Frame) (q : ℕ) (vs : List Value) (p : ℕ) (t : Tok) → AllFit most ds → HasParts h.ty → FineFrames most fs → Shallow most (length fs + 1) vs → FineStep most (on_item most ds h fs q vs p t)
+  Fine-item : (ds : List Decl) (h : Head) (fs : List Frame) (q : ℕ) (vs : List Value) (p : ℕ) (t : TokenKind) → AllFit most ds → HasParts h.type_ → FineFrames most fs → Shallow most (length fs + 1) vs → FineStep most (on_item most ds h fs q vs p t)
   Fine-item ds h fs q vs p tok.CloseBracket a c d e = stays ds h fs (spot.Done (value.List q vs)) a c d (list_depth (length fs) q vs e)
   Fine-item ds h fs q vs p t a c d e = Fine-begin ds h (frame.List q vs ∷ fs) p t a c (e, d) (omega (arith, e.below))
 
-  Fine-name : (ds : List Decl) (h : Head) (fs : List Frame) (q : ℕ) (xs : List Field) (p : ℕ) (t : Tok) → AllFit most ds → HasParts h.ty → FineFrames most fs → ShallowFields most (length fs + 1) xs → FineStep most (on_name ds h fs q xs p t)
+  Fine-name : (ds : List Decl) (h : Head) (fs : List Frame) (q : ℕ) (xs : List Field) (p : ℕ) (t : TokenKind) → AllFit most ds → HasParts h.type_ → FineFrames most fs → ShallowFields most (length fs + 1) xs → FineStep most (on_name ds h fs q xs p t)
   Fine-name ds h fs q xs p tok.CloseParen a c d e = stays ds h fs (spot.Done (value.Struct q xs)) a c d (struct_depth (length fs) q xs e)
   Fine-name ds h fs q xs p (tok.Name b) a c d e = stays ds h fs (spot.Equals q xs (word p b)) a c d e
   Fine-name ds h fs q xs p _ a c d e = tt
 
-  Fine-equals : (ds : List Decl) (h : Head) (fs : List Frame) (q : ℕ) (xs : List Field) (n : Placed) (t : Tok) → AllFit most ds → HasParts h.ty → FineFrames most fs → ShallowFields most (length fs + 1) xs → FineStep most (on_equals ds h fs q xs n t)
+  Fine-equals : (ds : List Decl) (h : Head) (fs : List Frame) (q : ℕ) (xs : List Field) (n : Placed) (t : TokenKind) → AllFit most ds → HasParts h.type_ → FineFrames most fs → ShallowFields most (length fs + 1) xs → FineStep most (on_equals ds h fs q xs n t)
   Fine-equals ds h fs q xs n tok.Equals a c d e = stays ds h (frame.Struct q xs n ∷ fs) spot.Begin a c (e, d) (omega (arith, e.below))
   Fine-equals ds h fs q xs n _ a c d e = tt
 
-  Fine-value : (ds : List Decl) (h : Head) (fs : List Frame) (s : Spot) (p : ℕ) (t : Tok) → AllFit most ds → HasParts h.ty → FineFrames most fs → FineSpot most (length fs) s → FineStep most (in_value most ds h fs s p t)
+  Fine-value : (ds : List Decl) (h : Head) (fs : List Frame) (s : Spot) (p : ℕ) (t : TokenKind) → AllFit most ds → HasParts h.type_ → FineFrames most fs → FineSpot most (length fs) s → FineStep most (in_value most ds h fs s p t)
   Fine-value ds h fs spot.Begin p t a c d e = Fine-begin ds h fs p t a c d e
   Fine-value ds h fs (spot.Embed q) p t a c d e = Fine-embed ds h fs q p t a c d e
   Fine-value ds h fs (spot.Dot q) p t a c d e = Fine-dot ds h fs q p t a c d e
@@ -171,24 +171,24 @@ module _ (most : ℕ) where
   Fine-decl ds false true f = goes ds at.UsingName f tt
   Fine-decl ds false false f = tt
 
-  Fine-begin_decl : (ds : List Decl) (t : Tok) → AllFit most ds → FineStep most (begin_decl ds t)
+  Fine-begin_decl : (ds : List Decl) (t : TokenKind) → AllFit most ds → FineStep most (begin_decl ds t)
   Fine-begin_decl ds (tok.Name w) f = Fine-decl ds (bytes_eq w (codes "const")) (bytes_eq w (codes "using")) f
   Fine-begin_decl ds tok.At f = goes ds at.Id f tt
   Fine-begin_decl ds _ f = tt
 
-  Fine-id : (ds : List Decl) (p : ℕ) (t : Tok) → AllFit most ds → FineStep most (on_id ds p t)
+  Fine-id : (ds : List Decl) (p : ℕ) (t : TokenKind) → AllFit most ds → FineStep most (on_id ds p t)
   Fine-id ds p (tok.Hex w) f = goes ds (at.IdEnd (word p w)) f tt
   Fine-id ds p _ f = tt
 
-  Fine-id_end : (ds : List Decl) (id : Placed) (t : Tok) → AllFit most ds → FineStep most (on_id_end ds id t)
+  Fine-id_end : (ds : List Decl) (id : Placed) (t : TokenKind) → AllFit most ds → FineStep most (on_id_end ds id t)
   Fine-id_end ds id tok.Semicolon f = goes (ds ++ decl.Id id ∷ []) at.Decl (AllFit-push most ds (decl.Id id) f tt) tt
   Fine-id_end ds id _ f = tt
 
-  Fine-using_name : (ds : List Decl) (p : ℕ) (t : Tok) → AllFit most ds → FineStep most (on_using_name ds p t)
+  Fine-using_name : (ds : List Decl) (p : ℕ) (t : TokenKind) → AllFit most ds → FineStep most (on_using_name ds p t)
   Fine-using_name ds p (tok.Name w) f = goes ds (at.UsingEquals (word p w)) f tt
   Fine-using_name ds p _ f = tt
 
-  Fine-using_equals : (ds : List Decl) (n : Placed) (t : Tok) → AllFit most ds → FineStep most (on_using_equals ds n t)
+  Fine-using_equals : (ds : List Decl) (n : Placed) (t : TokenKind) → AllFit most ds → FineStep most (on_using_equals ds n t)
   Fine-using_equals ds n tok.Equals f = goes ds (at.UsingImport n) f tt
   Fine-using_equals ds n _ f = tt
 
@@ -196,36 +196,36 @@ module _ (most : ℕ) where
   Fine-import ds n true f = goes ds (at.UsingPath n) f tt
   Fine-import ds n false f = tt
 
-  Fine-using_import : (ds : List Decl) (n : Placed) (t : Tok) → AllFit most ds → FineStep most (on_using_import ds n t)
+  Fine-using_import : (ds : List Decl) (n : Placed) (t : TokenKind) → AllFit most ds → FineStep most (on_using_import ds n t)
   Fine-using_import ds n (tok.Name w) f = Fine-import ds n (bytes_eq w (codes "import")) f
   Fine-using_import ds n _ f = tt
 
-  Fine-using_path : (ds : List Decl) (n : Placed) (p : ℕ) (t : Tok) → AllFit most ds → FineStep most (on_using_path ds n p t)
+  Fine-using_path : (ds : List Decl) (n : Placed) (p : ℕ) (t : TokenKind) → AllFit most ds → FineStep most (on_using_path ds n p t)
   Fine-using_path ds n p (tok.Text w) f = goes ds (at.UsingEnd n (word p w)) f tt
   Fine-using_path ds n p _ f = tt
 
-  Fine-using_end : (ds : List Decl) (n w : Placed) (t : Tok) → AllFit most ds → FineStep most (on_using_end ds n w t)
+  Fine-using_end : (ds : List Decl) (n w : Placed) (t : TokenKind) → AllFit most ds → FineStep most (on_using_end ds n w t)
   Fine-using_end ds n w tok.Semicolon f = goes (ds ++ decl.Using n w ∷ []) at.Decl (AllFit-push most ds (decl.Using n w) f tt) tt
   Fine-using_end ds n w _ f = tt
 
-  Fine-const_name : (ds : List Decl) (p : ℕ) (t : Tok) → AllFit most ds → FineStep most (on_const_name ds p t)
+  Fine-const_name : (ds : List Decl) (p : ℕ) (t : TokenKind) → AllFit most ds → FineStep most (on_const_name ds p t)
   Fine-const_name ds p (tok.Name w) f = goes ds (at.ConstColon (word p w)) f tt
   Fine-const_name ds p _ f = tt
 
-  Fine-const_colon : (ds : List Decl) (n : Placed) (t : Tok) → AllFit most ds → FineStep most (on_const_colon ds n t)
-  Fine-const_colon ds n tok.Colon f = goes ds (at.Type (record { name = n; ty = [] })) f tt
+  Fine-const_colon : (ds : List Decl) (n : Placed) (t : TokenKind) → AllFit most ds → FineStep most (on_const_colon ds n t)
+  Fine-const_colon ds n tok.Colon f = goes ds (at.Type (record { name = n; type_ = [] })) f tt
   Fine-const_colon ds n _ f = tt
 
-  Fine-type : (ds : List Decl) (h : Head) (p : ℕ) (t : Tok) → AllFit most ds → FineStep most (on_type ds h p t)
+  Fine-type : (ds : List Decl) (h : Head) (p : ℕ) (t : TokenKind) → AllFit most ds → FineStep most (on_type ds h p t)
   Fine-type ds h p (tok.Name w) f = goes ds (at.Typed h (word p w)) f tt
   Fine-type ds h p _ f = tt
 
-  Fine-typed : (ds : List Decl) (h : Head) (w : Placed) (t : Tok) → AllFit most ds → FineStep most (on_typed ds h w t)
+  Fine-typed : (ds : List Decl) (h : Head) (w : Placed) (t : TokenKind) → AllFit most ds → FineStep most (on_typed ds h w t)
   Fine-typed ds h w tok.Dot f = goes ds (at.Type (with_part h w)) f tt
-  Fine-typed ds h w tok.Equals f = stays ds (with_part h w) [] spot.Begin f (HasParts-push h.ty w) tt (omega arith)
+  Fine-typed ds h w tok.Equals f = stays ds (with_part h w) [] spot.Begin f (HasParts-push h.type_ w) tt (omega arith)
   Fine-typed ds h w _ f = tt
 
-  Fine-at : (ds : List Decl) (a : At) (p : ℕ) (t : Tok) → AllFit most ds → FineAt most a → FineStep most (step_at most ds a p t)
+  Fine-at : (ds : List Decl) (a : At) (p : ℕ) (t : TokenKind) → AllFit most ds → FineAt most a → FineStep most (step_at most ds a p t)
   Fine-at ds at.Decl p t f g = Fine-begin_decl ds t f
   Fine-at ds at.Id p t f g = Fine-id ds p t f
   Fine-at ds (at.IdEnd id) p t f g = Fine-id_end ds id t f
@@ -241,7 +241,7 @@ module _ (most : ℕ) where
   Fine-at ds (at.In h fs s) p t f g = Fine-value ds h fs s p t f g.0 g.1 g.2
 
   pub Fine-step : (s : State) (t : Token) → Fine most s → FineStep most (step most s t)
-  Fine-step s t f = Fine-at s.decls s.at t.place t.tok f.decls f.here
+  Fine-step s t f = Fine-at s.decls s.at t.place t.kind f.decls f.here
 
   -- ---- runs
 

@@ -2,8 +2,8 @@
 use Rattle.std.proofs.Common.{◌≡◌, ℕ, ◌<◌, ◌≤◌, Bool, true, false, cond, refl, sym, ap, subst, arith, ◌⊎◌, inl, inr, Option, Some, None}
 use Rattle.std.specs.Prelude.{not, ◌&&◌, ◌||◌, ◌==◌, nat_le}
 use Rattle.std.proofs.lemmas.Bool.{eqb-true, leb-true, le-leb, lt-leb}
-use Rattle.capnp_text.specs.declared.token.Tok.{Tok}
-use Rattle.capnp_text.specs.declared.token.Tok.TheVariants as tok
+use Rattle.capnp_text.specs.declared.token.TokenKind.{TokenKind}
+use Rattle.capnp_text.specs.declared.token.TokenKind.TheVariants as tok
 use Rattle.capnp_text.specs.Chars.{is_between, is_blank, is_digit, is_letter, is_inner, is_hex, sign}
 
 pub cond_yes : {A : Type 0} (r : Bool) (x y : A) → r ≡ true → cond r x y ≡ x
@@ -114,17 +114,17 @@ no_inner_apart b n h k = apart (λ c. not (is_inner c)) b n (not_no (is_inner b)
 
 -- ---- tokens of one byte
 
-test_one : (P : ℕ → Tok → Type 0) (n : ℕ) (x : Tok) (b : ℕ) (t : Tok) (rest : Option Tok) (r : Bool) → (b == n) ≡ r → P n x → (rest ≡ Some t → P b t) → cond r (Some x) rest ≡ Some t → P b t
+test_one : (P : ℕ → TokenKind → Type 0) (n : ℕ) (x : TokenKind) (b : ℕ) (t : TokenKind) (rest : Option TokenKind) (r : Bool) → (b == n) ≡ r → P n x → (rest ≡ Some t → P b t) → cond r (Some x) rest ≡ Some t → P b t
 test_one P n x b t rest true e p f h = let same : x ≡ t = cc in subst (λ (z : ℕ). P z t) (sym (eqb-true b n e)) (subst (P n) same p)
 test_one P n x b t rest false e p f h = f h
 
-one_of : (P : ℕ → Tok → Type 0) (n : ℕ) (x : Tok) (b : ℕ) (t : Tok) (rest : Option Tok) → P n x → (rest ≡ Some t → P b t) → cond (b == n) (Some x) rest ≡ Some t → P b t
+one_of : (P : ℕ → TokenKind → Type 0) (n : ℕ) (x : TokenKind) (b : ℕ) (t : TokenKind) (rest : Option TokenKind) → P n x → (rest ≡ Some t → P b t) → cond (b == n) (Some x) rest ≡ Some t → P b t
 one_of P n x b t rest p f h = test_one P n x b t rest (b == n) refl p f h
 
-none : (P : ℕ → Tok → Type 0) (b : ℕ) (t : Tok) → None ≡ Some t → P b t
+none : (P : ℕ → TokenKind → Type 0) (b : ℕ) (t : TokenKind) → None ≡ Some t → P b t
 none P b t h = cc
 
-pub by_sign : (P : ℕ → Tok → Type 0) → P 44 tok.Comma → P 61 tok.Equals → P 59 tok.Semicolon → P 58 tok.Colon → P 46 tok.Dot → P 64 tok.At → P 40 tok.OpenParen → P 41 tok.CloseParen → P 91 tok.OpenBracket → P 93 tok.CloseBracket → (b : ℕ) (t : Tok) → sign b ≡ Some t → P b t
+pub by_sign : (P : ℕ → TokenKind → Type 0) → P 44 tok.Comma → P 61 tok.Equals → P 59 tok.Semicolon → P 58 tok.Colon → P 46 tok.Dot → P 64 tok.At → P 40 tok.OpenParen → P 41 tok.CloseParen → P 91 tok.OpenBracket → P 93 tok.CloseBracket → (b : ℕ) (t : TokenKind) → sign b ≡ Some t → P b t
 by_sign P c e s o d a op cp ob cb b t =
     one_of P 44 tok.Comma b t _ c (one_of P 61 tok.Equals b t _ e (one_of P 59 tok.Semicolon b t _ s (one_of P 58 tok.Colon b t _ o (one_of P 46 tok.Dot b t _ d
     (one_of P 64 tok.At b t _ a (one_of P 40 tok.OpenParen b t _ op (one_of P 41 tok.CloseParen b t _ cp (one_of P 91 tok.OpenBracket b t _ ob (one_of P 93 tok.CloseBracket b t None cb (none P b t))))))))))

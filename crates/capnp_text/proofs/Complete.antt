@@ -6,8 +6,8 @@ use Rattle.std.proofs.lemmas.Bool.{lt-ltb}
 use Rattle.std.proofs.lemmas.List.{append-nil}
 use Rattle.std.proofs.lemmas.List.Concat.{flat_map-cons}
 use Rattle.std.proofs.lemmas.Slice.Eq.{bytes_eq-Decides}
-use Rattle.capnp_text.specs.declared.token.Tok.{Tok}
-use Rattle.capnp_text.specs.declared.token.Tok.TheVariants as tok
+use Rattle.capnp_text.specs.declared.token.TokenKind.{TokenKind}
+use Rattle.capnp_text.specs.declared.token.TokenKind.TheVariants as tok
 use Rattle.capnp_text.specs.declared.token.Token.{Token}
 use Rattle.capnp_text.specs.declared.tree.Placed.{Placed}
 use Rattle.capnp_text.specs.declared.tree.Value.{Value, roll-Value}
@@ -34,7 +34,7 @@ use Rattle.capnp_text.proofs.Equations.{of_text, of_data, of_number, of_word, of
 use Rattle.capnp_text.proofs.Runs.{run_step, run_alike}
 use Rattle.capnp_text.proofs.Sound.{placed}
 
-abbrev pub begins : Tok → Bool
+abbrev pub begins : TokenKind → Bool
 begins (tok.Text b) = true
 begins (tok.Data b) = true
 begins (tok.Number b) = true
@@ -44,7 +44,7 @@ begins tok.OpenParen = true
 begins tok.OpenBracket = true
 begins _ = false
 
-abbrev pub ends : Tok → Bool
+abbrev pub ends : TokenKind → Bool
 ends tok.Semicolon = true
 ends tok.Comma = true
 ends tok.CloseParen = true
@@ -62,20 +62,20 @@ state_at ds a = record { decls = ds; at = a }
 
 -- what these marks are of begins with a token that may stand after a value
 pub record EndsFirst (ms : List Mark) : Type 0 where
-  pub first : (ts : List Token) → Matches ms ts → (t : Token) × (us : List Token) × (ts ≡ t ∷ us) × (ends t.tok ≡ true)
+  pub first : (ts : List Token) → Matches ms ts → (t : Token) × (us : List Token) × (ts ≡ t ∷ us) × (ends t.kind ≡ true)
 
-embed_ends : (ds : List Decl) (h : Head) (fs : List Frame) (q p : ℕ) (t : Tok) → ends t ≡ true → on_embed ds h fs q p t ≡ after ds h fs (value.Word (embed q)) t
+embed_ends : (ds : List Decl) (h : Head) (fs : List Frame) (q p : ℕ) (t : TokenKind) → ends t ≡ true → on_embed ds h fs q p t ≡ after ds h fs (value.Word (embed q)) t
 embed_ends ds h fs q p (tok.Text b) e = cc
 embed_ends ds h fs q p _ e = refl
 
-first_ends : (t : Tok) (ms : List Mark) → ends t ≡ true → EndsFirst (Just t ∷ ms)
+first_ends : (t : TokenKind) (ms : List Mark) → ends t ≡ true → EndsFirst (Just t ∷ ms)
 first_ends t ms e = record { first = λ ts h. (placed h.3.0 t, h.1, h.2 ∙ ap (λ (z : List Token). z ++ h.1) h.3.1, e) }
 
-more_ends : (c : Tok) (ms : List (List Mark)) (rest : List Mark) → ends c ≡ true → EndsFirst (more ms ++ Just c ∷ rest)
+more_ends : (c : TokenKind) (ms : List (List Mark)) (rest : List Mark) → ends c ≡ true → EndsFirst (more ms ++ Just c ∷ rest)
 more_ends c [] rest e = record {
   first = λ ts h. elim h.3 [
     | inl o ↦ (placed o.0 tok.Comma, h.1, h.2 ∙ ap (λ (z : List Token). z ++ h.1) o.1, refl)
-    | inr n ↦ let r : (t : Token) × (us : List Token) × (h.1 ≡ t ∷ us) × (ends t.tok ≡ true) = (first_ends c rest e).first h.1 h.4 in
+    | inr n ↦ let r : (t : Token) × (us : List Token) × (h.1 ≡ t ∷ us) × (ends t.kind ≡ true) = (first_ends c rest e).first h.1 h.4 in
         (r.0, r.1, h.2 ∙ ap (λ (z : List Token). z ++ h.1) n ∙ r.2, r.3)
   ];
 }
@@ -91,13 +91,13 @@ module _ (most : ℕ) where
   takes_none : (s : State) → Takes s [] s
   takes_none s = record { takes = λ ts rest h. ap (λ (z : List Token). run (step most) s (z ++ rest)) h }
 
-  takes_just : (s n m : State) (t : Tok) (ms : List Mark) → ((p : ℕ) → step most s (placed p t) ≡ Ok n) → Takes n ms m → Takes s (Just t ∷ ms) m
+  takes_just : (s n m : State) (t : TokenKind) (ms : List Mark) → ((p : ℕ) → step most s (placed p t) ≡ Ok n) → Takes n ms m → Takes s (Just t ∷ ms) m
   takes_just s n m t ms e k = record {
     takes = λ ts rest h.
         ap (λ (z : List Token). run (step most) s (z ++ rest)) (h.2 ∙ ap (λ (z : List Token). z ++ h.1) h.3.1) ∙ run_step (step most) s n (placed h.3.0 t) (h.1 ++ rest) (e h.3.0) ∙ k.takes h.1 rest h.4;
   }
 
-  takes_at : (s n m : State) (p : ℕ) (t : Tok) (ms : List Mark) → step most s (placed p t) ≡ Ok n → Takes n ms m → Takes s (Fixed p t ∷ ms) m
+  takes_at : (s n m : State) (p : ℕ) (t : TokenKind) (ms : List Mark) → step most s (placed p t) ≡ Ok n → Takes n ms m → Takes s (Fixed p t ∷ ms) m
   takes_at s n m p t ms e k = record {
     takes = λ ts rest h.
         ap (λ (z : List Token). run (step most) s (z ++ rest)) (h.2 ∙ ap (λ (z : List Token). z ++ h.1) h.3) ∙ run_step (step most) s n (placed p t) (h.1 ++ rest) e ∙ k.takes h.1 rest h.4;
@@ -118,7 +118,7 @@ module _ (most : ℕ) where
 
   -- s is a state in which a value may begin, over these frames
   record Opens (s : State) (ds : List Decl) (h : Head) (fs : List Frame) : Type 0 where
-    opens : (p : ℕ) (t : Tok) → begins t ≡ true → step most s (placed p t) ≡ begin most ds h fs p t
+    opens : (p : ℕ) (t : TokenKind) → begins t ≡ true → step most s (placed p t) ≡ begin most ds h fs p t
 
   record Reads (v : Value) : Type 0 where
     reads : (ds : List Decl) (h : Head) (fs : List Frame) (s m : State) (ms : List Mark) → Opens s ds h fs → length fs + depth v ≤ most → EndsFirst ms
@@ -133,11 +133,11 @@ module _ (most : ℕ) where
   takes_embed : (ds : List Decl) (h : Head) (fs : List Frame) (q : ℕ) (m : State) (ms : List Mark) → EndsFirst ms → Takes (inside ds h fs (spot.Done (value.Word (embed q)))) ms m → Takes (inside ds h fs (spot.Embed q)) ms m
   takes_embed ds h fs q m ms f k = record {
     takes = λ ts rest g.
-        let e : (t : Token) × (us : List Token) × (ts ≡ t ∷ us) × (ends t.tok ≡ true) = f.first ts g in
+        let e : (t : Token) × (us : List Token) × (ts ≡ t ∷ us) × (ends t.kind ≡ true) = f.first ts g in
         let a = inside ds h fs (spot.Embed q) in
         let b = inside ds h fs (spot.Done (value.Word (embed q))) in
         ap (λ (z : List Token). run (step most) a (z ++ rest)) e.2
-        ∙ run_alike (step most) a b e.0 (e.1 ++ rest) (embed_ends ds h fs q e.0.place e.0.tok e.3)
+        ∙ run_alike (step most) a b e.0 (e.1 ++ rest) (embed_ends ds h fs q e.0.place e.0.kind e.3)
         ∙ ap (λ (z : List Token). run (step most) b (z ++ rest)) (sym e.2)
         ∙ k.takes ts rest g;
   }
@@ -188,7 +188,7 @@ module _ (most : ℕ) where
   opens_item : (ds : List Decl) (h : Head) (fs : List Frame) (q : ℕ) (vs : List Value) → Opens (inside ds h fs (spot.Item q vs)) ds h (frame.List q vs ∷ fs)
   opens_item ds h fs q vs = record { opens = by_token }
     where
-      by_token : (p : ℕ) (t : Tok) → begins t ≡ true → on_item most ds h fs q vs p t ≡ begin most ds h (frame.List q vs ∷ fs) p t
+      by_token : (p : ℕ) (t : TokenKind) → begins t ≡ true → on_item most ds h fs q vs p t ≡ begin most ds h (frame.List q vs ∷ fs) p t
       by_token p tok.CloseBracket e = cc
       by_token p t e = refl
 
@@ -304,7 +304,7 @@ module _ (most : ℕ) where
   -- ---- files
 
   abbrev head : Placed → List Placed → Head
-  head n parts = record { name = n; ty = parts }
+  head n parts = record { name = n; type_ = parts }
 
   takes_typed : (ws : List Placed) (ds : List Decl) (n : Placed) (parts : List Placed) (w : Placed) (m : State) (ms : List Mark) → Takes (inside ds (head n (parts ++ w ∷ ws)) [] spot.Begin) ms m
       → Takes (state_at ds (at.Typed (head n parts) w)) (dotted ws ++ Just tok.Equals ∷ ms) m

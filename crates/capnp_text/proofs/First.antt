@@ -1,8 +1,8 @@
 -- What the machine does not take, no file goes on with.
 use Rattle.std.proofs.Common.{◌≡◌, ℕ, List, [], ◌∷◌, ◌++◌, Ok, Err, refl, ◌∙◌, subst}
 use Rattle.std.specs.Prelude.{codes}
-use Rattle.capnp_text.specs.declared.token.Tok.{Tok}
-use Rattle.capnp_text.specs.declared.token.Tok.TheVariants as tok
+use Rattle.capnp_text.specs.declared.token.TokenKind.{TokenKind}
+use Rattle.capnp_text.specs.declared.token.TokenKind.TheVariants as tok
 use Rattle.capnp_text.specs.declared.token.Token.{Token}
 use Rattle.capnp_text.specs.declared.tree.Placed.{Placed}
 use Rattle.capnp_text.specs.declared.tree.Value.{Value}
@@ -33,7 +33,7 @@ module _ (most : ℕ) where
     decls : List Decl
     ran : run (step most) s more ≡ Ok (between decls)
 
-  then : (s n : State) (t : Tok) → step most s (placed 0 t) ≡ Ok n → Ending n → Ending s
+  then : (s n : State) (t : TokenKind) → step most s (placed 0 t) ≡ Ok n → Ending n → Ending s
   then s n t e r = record { more = placed 0 t ∷ r.more; decls = r.decls; ran = run_step (step most) s n (placed 0 t) r.more e ∙ r.ran }
 
   ended : (ds : List Decl) → Ending (between ds)

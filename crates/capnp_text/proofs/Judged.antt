@@ -53,8 +53,8 @@ because_decl before t s h e =
 
 no_bad_token : (s : State) (ds : List Decl) (t : Token) → s ≡ between ds → step most_open s t ≡ Err refusal.BadToken → ⊥
 no_bad_token s ds t same e =
-    let here : begin_decl ds t.tok ≡ Err refusal.BadToken = subst (λ (z : State). step most_open z t ≡ Err refusal.BadToken) same e in
-    let wrong : refusal.BadToken ≡ refusal.BadDecl = decl_refused ds t.tok refusal.BadToken here in cc
+    let here : begin_decl ds t.kind ≡ Err refusal.BadToken = subst (λ (z : State). step most_open z t ≡ Err refusal.BadToken) same e in
+    let wrong : refusal.BadToken ≡ refusal.BadDecl = decl_refused ds t.kind refusal.BadToken here in cc
 
 because_token : (before : List Token) (t : Token) (s : State) → read most_open before ≡ Ok s → step most_open s t ≡ Err refusal.BadToken → Because kind.BadToken before t
 because_token before t s h e =
@@ -70,7 +70,7 @@ because before t s refusal.TooDeep h e = because_deep before t s h e
 no_deep_decl : (before : List Token) (t : Token) (s : State) (k : Refusal) → read most_open before ≡ Ok s → step most_open s t ≡ Err k → (ds : List Decl) → IsFile most_open ds before → IsViable (most_open + 1) (before ++ t ∷ []) → ⊥
 no_deep_decl before t s k h e ds f v =
     let same : s ≡ between ds = whole_file most_open before s ds h f in
-    let here : begin_decl ds t.tok ≡ Err k = subst (λ (z : State). step most_open z t ≡ Err k) same e in
+    let here : begin_decl ds t.kind ≡ Err k = subst (λ (z : State). step most_open z t ≡ Err k) same e in
     let wide : step (most_open + 1) s t ≡ Err k = subst (λ (z : State). step (most_open + 1) z t ≡ Err k) (sym same) here in
     no_file (most_open + 1) before t s k (wider_read most_open before s h) wide v
 

@@ -3,8 +3,8 @@ use Rattle.std.proofs.Common.{◌≡◌, ℕ, ◌+◌, Bool, true, false, cond, 
 use Rattle.std.specs.Prelude.{◌||◌, ◌==◌, flat_map}
 use Rattle.std.proofs.lemmas.List.{append-nil, length-append, length-replicate}
 use Rattle.std.proofs.lemmas.Bool.{eqb-true}
-use Rattle.capnp_text.specs.declared.token.Tok.{Tok}
-use Rattle.capnp_text.specs.declared.token.Tok.TheVariants as tok
+use Rattle.capnp_text.specs.declared.token.TokenKind.{TokenKind}
+use Rattle.capnp_text.specs.declared.token.TokenKind.TheVariants as tok
 use Rattle.capnp_text.specs.declared.token.Token.{Token}
 use Rattle.capnp_text.specs.declared.scan.Open.{Open}
 use Rattle.capnp_text.specs.declared.scan.Open.TheVariants as o
@@ -226,7 +226,7 @@ one_piece (Data rs) p ts rest h a =
     let len : p + 3 + length (flat_map pair_bytes rs) + 1 ≡ p + length (piece_bytes (Data rs)) = omega (arith, length-append (flat_map pair_bytes rs) (34 ∷ [])) in
     ap (λ (z : List ℕ). tell p ts o.Gap (48 ∷ 120 ∷ 34 ∷ z)) (append_assoc (flat_map pair_bytes rs) (34 ∷ []) rest) ∙ one_data rs p ts rest h ∙ at_place _ _ _ o.Gap rest len
 one_piece (Sign b t) p ts rest h a =
-    went p ts (with_token ts p t) o.Gap o.Gap b rest (by_sign (λ (c : ℕ) (u : Tok). gap ts p c ≡ to (with_token ts p u) o.Gap) refl refl refl refl refl refl refl refl refl refl b t h)
+    went p ts (with_token ts p t) o.Gap o.Gap b rest (by_sign (λ (c : ℕ) (u : TokenKind). gap ts p c ≡ to (with_token ts p u) o.Gap) refl refl refl refl refl refl refl refl refl refl b t h)
     ∙ at_place _ _ _ o.Gap rest (omega arith)
 
 -- ---- tails

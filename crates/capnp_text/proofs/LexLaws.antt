@@ -1,8 +1,8 @@
 -- The tokens of a text are those that are scanned, and no others.
 use Rattle.std.proofs.Common.{◌≡◌, ℕ, ◌+◌, Bool, true, false, cond, List, [], ◌∷◌, ◌++◌, length, Result, Ok, Err, Option, Some, None, refl, sym, ◌∙◌, ap, subst, arith}
 use Rattle.std.specs.Prelude.{◌==◌}
-use Rattle.capnp_text.specs.declared.token.Tok.{Tok}
-use Rattle.capnp_text.specs.declared.token.Tok.TheVariants as tok
+use Rattle.capnp_text.specs.declared.token.TokenKind.{TokenKind}
+use Rattle.capnp_text.specs.declared.token.TokenKind.TheVariants as tok
 use Rattle.capnp_text.specs.declared.token.Token.{Token}
 use Rattle.capnp_text.specs.declared.scan.Open.{Open}
 use Rattle.capnp_text.specs.declared.scan.Open.TheVariants as o
@@ -43,7 +43,7 @@ says_cond : (us : List Token) (r : Bool) (x y : Scanned) → Says us x → Says 
 says_cond us true x y f g = f
 says_cond us false x y f g = g
 
-says_signed : (ts : List Token) (p : ℕ) (t : Option Tok) → Says ts (signed ts p t)
+says_signed : (ts : List Token) (p : ℕ) (t : Option TokenKind) → Says ts (signed ts p t)
 says_signed ts p (Some t) = says_ok ts _
 says_signed ts p None = says_refused ts
 

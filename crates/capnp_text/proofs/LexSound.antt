@@ -3,8 +3,8 @@ use Rattle.std.proofs.Common.{◌≡◌, ℕ, ◌+◌, Bool, true, false, cond, 
 use Rattle.std.specs.Prelude.{◌||◌, ◌==◌, flat_map}
 use Rattle.std.proofs.lemmas.List.{append-nil, length-append, length-replicate}
 use Rattle.std.proofs.lemmas.Bool.{eqb-true}
-use Rattle.capnp_text.specs.declared.token.Tok.{Tok}
-use Rattle.capnp_text.specs.declared.token.Tok.TheVariants as tok
+use Rattle.capnp_text.specs.declared.token.TokenKind.{TokenKind}
+use Rattle.capnp_text.specs.declared.token.TokenKind.TheVariants as tok
 use Rattle.capnp_text.specs.declared.token.Token.{Token}
 use Rattle.capnp_text.specs.declared.scan.Open.{Open}
 use Rattle.capnp_text.specs.declared.scan.Open.TheVariants as o
@@ -46,7 +46,7 @@ from_tail t ts p bs us open_ h e f g = record { pieces = []; tail = t; are = tt;
 
 -- ---- what remains of a name or a number
 
-record WordClaim (f : ℕ → Bool) (made : List ℕ → Tok) (ts : List Token) (q : ℕ) (w : List ℕ) (p : ℕ) (bs : List ℕ) (us : List Token) (open_ : Bool) : Type 0 where
+record WordClaim (f : ℕ → Bool) (made : List ℕ → TokenKind) (ts : List Token) (q : ℕ) (w : List ℕ) (p : ℕ) (bs : List ℕ) (us : List Token) (open_ : Bool) : Type 0 where
   more : List ℕ
   rest : List ℕ
   text : bs ≡ more ++ rest
@@ -54,7 +54,7 @@ record WordClaim (f : ℕ → Bool) (made : List ℕ → Tok) (ts : List Token) 
   apart : Apart rest
   from : FromGap (with_token ts q (made (w ++ more))) (p + length more) rest us open_
 
-word_more : (f : ℕ → Bool) (made : List ℕ → Tok) (ts : List Token) (q : ℕ) (w : List ℕ) (p b : ℕ) (bs : List ℕ) (us : List Token) (open_ : Bool) → f b ≡ true → WordClaim f made ts q (w ++ b ∷ []) (p + 1) bs us open_ → WordClaim f made ts q w p (b ∷ bs) us open_
+word_more : (f : ℕ → Bool) (made : List ℕ → TokenKind) (ts : List Token) (q : ℕ) (w : List ℕ) (p b : ℕ) (bs : List ℕ) (us : List Token) (open_ : Bool) → f b ≡ true → WordClaim f made ts q (w ++ b ∷ []) (p + 1) bs us open_ → WordClaim f made ts q w p (b ∷ bs) us open_
 word_more f made ts q w p b bs us open_ h c =
     record {
       more = b ∷ c.more;
@@ -65,7 +65,7 @@ word_more f made ts q w p b bs us open_ h c =
       from = moved _ _ _ c.rest c.rest us open_ (omega arith) refl (subst (λ (z : List ℕ). FromGap (with_token ts q (made z)) (p + 1 + length c.more) c.rest us open_) (append_assoc w (b ∷ []) c.more) c.from);
     }
 
-word_stop : (f : ℕ → Bool) (made : List ℕ → Tok) (ts : List Token) (q : ℕ) (w : List ℕ) (p : ℕ) (bs : List ℕ) (us : List Token) (open_ : Bool) → Apart bs → FromGap (with_token ts q (made w)) p bs us open_ → WordClaim f made ts q w p bs us open_
+word_stop : (f : ℕ → Bool) (made : List ℕ → TokenKind) (ts : List Token) (q : ℕ) (w : List ℕ) (p : ℕ) (bs : List ℕ) (us : List Token) (open_ : Bool) → Apart bs → FromGap (with_token ts q (made w)) p bs us open_ → WordClaim f made ts q w p bs us open_
 word_stop f made ts q w p bs us open_ a g =
     record {
       more = [];
@@ -309,7 +309,7 @@ from_text ts p bs us open_ (inr c) = from_tail (OpenText c.letters c.part) ts p 
 from_blank : (ts : List Token) (p b : ℕ) (bs : List ℕ) (us : List Token) (open_ : Bool) → is_blank b ≡ true → FromGap ts (p + 1) bs us open_ → FromGap ts p (b ∷ bs) us open_
 from_blank ts p b bs us open_ h g = from_piece (Blank b) ts p bs us open_ h tt (moved _ _ _ bs bs us open_ (omega arith) refl (subst (λ (z : List Token). FromGap z (p + 1) bs us open_) (sym (append-nil ts)) g))
 
-from_sign : (ts : List Token) (p b : ℕ) (t : Tok) (bs : List ℕ) (us : List Token) (open_ : Bool) → sign b ≡ Some t → FromGap (with_token ts p t) (p + 1) bs us open_ → FromGap ts p (b ∷ bs) us open_
+from_sign : (ts : List Token) (p b : ℕ) (t : TokenKind) (bs : List ℕ) (us : List Token) (open_ : Bool) → sign b ≡ Some t → FromGap (with_token ts p t) (p + 1) bs us open_ → FromGap ts p (b ∷ bs) us open_
 from_sign ts p b t bs us open_ h g = from_piece (Sign b t) ts p bs us open_ h tt (moved _ _ _ bs bs us open_ (omega arith) refl g)
 
 -- ---- steps
@@ -334,7 +334,7 @@ left r = stays_open r.scan.begun
 abbrev Sounds : List ℕ → Type 0
 Sounds bs = (ts : List Token) (x : Open) (p : ℕ) (r : Reading) → run next (reading p ts x) bs ≡ Ok r → Claim x ts p bs (out r) (left r)
 
-by_signed : (ts : List Token) (p b : ℕ) (bs : List ℕ) (r : Reading) (s : Option Tok) → sign b ≡ s → Sounds bs → Leads p b bs (signed ts p s) r → FromGap ts p (b ∷ bs) (out r) (left r)
+by_signed : (ts : List Token) (p b : ℕ) (bs : List ℕ) (r : Reading) (s : Option TokenKind) → sign b ≡ s → Sounds bs → Leads p b bs (signed ts p s) r → FromGap ts p (b ∷ bs) (out r) (left r)
 by_signed ts p b bs r (Some t) e i h = from_sign ts p b t bs (out r) (left r) e (i (with_token ts p t) o.Gap (p + 1) r h.leads)
 by_signed ts p b bs r None e i h = stuck p b bs ts r h
 
@@ -353,7 +353,7 @@ name_sound ts q w p b bs r i h =
     by_cond p b bs (is_inner b) _ _ r h (λ e k. word_more is_inner tok.Name ts q w p b bs (out r) (left r) e (i ts (o.Name q (w ++ b ∷ [])) (p + 1) r k.leads))
     (λ e k. word_stop is_inner tok.Name ts q w p (b ∷ bs) (out r) (left r) e (gap_sound (with_token ts q (tok.Name w)) p b bs r i k))
 
-behind_sound : (f : ℕ → Bool) (made : List ℕ → Tok) (ts : List Token) (q : ℕ) (w : List ℕ) (p b : ℕ) (bs : List ℕ) (r : Reading) → Sounds bs → Leads p b bs (behind (with_token ts q (made w)) p b) r → WordClaim f made ts q w p (b ∷ bs) (out r) (left r)
+behind_sound : (f : ℕ → Bool) (made : List ℕ → TokenKind) (ts : List Token) (q : ℕ) (w : List ℕ) (p b : ℕ) (bs : List ℕ) (r : Reading) → Sounds bs → Leads p b bs (behind (with_token ts q (made w)) p b) r → WordClaim f made ts q w p (b ∷ bs) (out r) (left r)
 behind_sound f made ts q w p b bs r i h =
     by_cond p b bs (is_inner b) _ _ r h (λ e k. stuck p b bs (with_token ts q (made w)) r k)
     (λ e k. word_stop f made ts q w p (b ∷ bs) (out r) (left r) e (gap_sound (with_token ts q (made w)) p b bs r i k))
@@ -457,7 +457,7 @@ space_sound ts q w p b bs r i h k n d =
 
 -- ---- every state
 
-no_more : (f : ℕ → Bool) (made : List ℕ → Tok) (ts : List Token) (q : ℕ) (w : List ℕ) (p : ℕ) → WordClaim f made ts q w p [] (with_token ts q (made w)) false
+no_more : (f : ℕ → Bool) (made : List ℕ → TokenKind) (ts : List Token) (q : ℕ) (w : List ℕ) (p : ℕ) → WordClaim f made ts q w p [] (with_token ts q (made w)) false
 no_more f made ts q w p = word_stop f made ts q w p [] (with_token ts q (made w)) false tt (from_tail Nothing (with_token ts q (made w)) p [] (with_token ts q (made w)) false tt refl refl refl)
 
 left_text : (ts : List Token) (part : List ℕ) → LetterPart part → TextLeft ts part ts true

@@ -1,6 +1,6 @@
 -- Token lists against marks.
 use Rattle.std.proofs.Common.{◌≡◌, List, [], ◌∷◌, ◌++◌, refl, sym, ◌∙◌, ap, subst, append_assoc, inl, inr}
-use Rattle.capnp_text.specs.declared.token.Tok.TheVariants.{Comma}
+use Rattle.capnp_text.specs.declared.token.TokenKind.TheVariants.{Comma}
 use Rattle.capnp_text.specs.declared.token.Token.{Token}
 use Rattle.capnp_text.specs.Marks.{Mark, Just, MayComma, OfMark, Matches}
 

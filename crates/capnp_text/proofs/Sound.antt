@@ -5,8 +5,8 @@ use Rattle.std.specs.Str.{bytes_eq}
 use Rattle.std.proofs.lemmas.List.{append-nil, map-append}
 use Rattle.std.proofs.lemmas.Grind.{flat_map-append}
 use Rattle.std.proofs.lemmas.Slice.Eq.{bytes_eq-Decides}
-use Rattle.capnp_text.specs.declared.token.Tok.{Tok}
-use Rattle.capnp_text.specs.declared.token.Tok.TheVariants as tok
+use Rattle.capnp_text.specs.declared.token.TokenKind.{TokenKind}
+use Rattle.capnp_text.specs.declared.token.TokenKind.TheVariants as tok
 use Rattle.capnp_text.specs.declared.token.Token.{Token}
 use Rattle.capnp_text.specs.declared.tree.Placed.{Placed}
 use Rattle.capnp_text.specs.declared.tree.Value.{Value}
@@ -64,7 +64,7 @@ abbrev pub head_front : Placed → List Mark
 head_front n = keyword (codes "const") ∷ name n ∷ Just tok.Colon ∷ []
 
 abbrev pub head_marks : Head → List Mark
-head_marks h = head_front h.name ++ (of_type h.ty ++ Just tok.Equals ∷ [])
+head_marks h = head_front h.name ++ (of_type h.type_ ++ Just tok.Equals ∷ [])
 
 abbrev pub stem : List Decl → Head → List Frame → List Mark
 stem ds h fs = (of_file ds ++ head_marks h) ++ frames_marks fs
@@ -80,8 +80,8 @@ spelled_at ds (at.UsingPath n) = of_file ds ++ keyword (codes "using") ∷ name 
 spelled_at ds (at.UsingEnd n w) = of_file ds ++ keyword (codes "using") ∷ name n ∷ Just tok.Equals ∷ keyword (codes "import") ∷ text w ∷ []
 spelled_at ds at.ConstName = of_file ds ++ keyword (codes "const") ∷ []
 spelled_at ds (at.ConstColon n) = of_file ds ++ keyword (codes "const") ∷ name n ∷ []
-spelled_at ds (at.Type h) = of_file ds ++ (head_front h.name ++ pointed h.ty)
-spelled_at ds (at.Typed h w) = of_file ds ++ (head_front h.name ++ (pointed h.ty ++ name w ∷ []))
+spelled_at ds (at.Type h) = of_file ds ++ (head_front h.name ++ pointed h.type_)
+spelled_at ds (at.Typed h w) = of_file ds ++ (head_front h.name ++ (pointed h.type_ ++ name w ∷ []))
 spelled_at ds (at.In h fs s) = stem ds h fs ++ spot_marks s
 
 abbrev pub spelled : State → List Mark
@@ -92,8 +92,8 @@ abbrev pub Grows : List Mark → Token → Step → Type 0
 Grows a t (Err k) = Unit {0}
 Grows a t (Ok n) = (ts : List Token) → Matches a ts → Matches (spelled n) (ts ++ t ∷ [])
 
-abbrev pub placed : ℕ → Tok → Token
-placed p t = record { place = p; tok = t }
+abbrev pub placed : ℕ → TokenKind → Token
+placed p t = record { place = p; kind = t }
 
 -- ---- steps
 
@@ -117,7 +117,7 @@ Grows-word : (ds : List Decl) (h : Head) (fs : List Frame) (p : ℕ) (b : List �
 Grows-word ds h fs p b true e = at_end (stem ds h fs) _ (name (embed p)) (placed p (tok.Name b)) refl (ap (λ (z : List ℕ). placed p (tok.Name z) ∷ []) (e refl))
 Grows-word ds h fs p b false e = at_end (stem ds h fs) _ (name (word p b)) (placed p (tok.Name b)) (sym (of_word (word p b))) refl
 
-Grows-begin : (most : ℕ) (ds : List Decl) (h : Head) (fs : List Frame) (p : ℕ) (t : Tok) → Grows (stem ds h fs) (placed p t) (begin most ds h fs p t)
+Grows-begin : (most : ℕ) (ds : List Decl) (h : Head) (fs : List Frame) (p : ℕ) (t : TokenKind) → Grows (stem ds h fs) (placed p t) (begin most ds h fs p t)
 Grows-begin most ds h fs p (tok.Text b) = at_end (stem ds h fs) _ (text (word p b)) (placed p (tok.Text b)) (sym (of_text (word p b))) refl
 Grows-begin most ds h fs p (tok.Data b) = at_end (stem ds h fs) _ (Fixed p (tok.Data b)) (placed p (tok.Data b)) (sym (of_data (word p b))) refl
 Grows-begin most ds h fs p (tok.Number b) = at_end (stem ds h fs) _ (Fixed p (tok.Number b)) (placed p (tok.Number b)) (sym (of_number (word p b))) refl
@@ -190,7 +190,7 @@ pop_eq a f g v m = simp append_assoc
 pops : (a f g v y : List Mark) (m : Mark) (t : Token) → Covers ((g ++ v) ++ m ∷ []) y → OfMark m (t ∷ []) → (ts : List Token) → Matches ((a ++ (f ++ g)) ++ v) ts → Matches ((a ++ f) ++ y) (ts ++ t ∷ [])
 pops a f g v y m t c o = grows _ ((a ++ f) ++ y) m t (covers_trans _ ((a ++ f) ++ ((g ++ v) ++ m ∷ [])) _ (covers_same _ _ (pop_eq a f g v (m ∷ []))) (covers_behind (a ++ f) ((g ++ v) ++ m ∷ []) y c)) o
 
-const_end : (ds : List Decl) (h : Head) (v : Value) → (stem ds h [] ++ of_value v) ++ Just tok.Semicolon ∷ [] ≡ of_file (ds ++ decl.Const h.name h.ty v ∷ [])
+const_end : (ds : List Decl) (h : Head) (v : Value) → (stem ds h [] ++ of_value v) ++ Just tok.Semicolon ∷ [] ≡ of_file (ds ++ decl.Const h.name h.type_ v ∷ [])
 const_end ds h v = simp (append_assoc, append-nil, flat_map-append)
 
 item_comma : (p : ℕ) (vs : List Value) (v : Value) → (frame_marks (frame.List p vs) ++ of_value v) ++ Just tok.Comma ∷ [] ≡ spot_marks (spot.Item p (vs ++ v ∷ []))
@@ -211,21 +211,21 @@ field_close p n xs v =
     (covers_trans _ _ _ (close_item (Fixed p tok.OpenParen) (Just tok.CloseParen) (map of_field xs) (of_field (field n v)))
     (covers_same _ _ (ap (λ (z : List (List Mark)). Fixed p tok.OpenParen ∷ (listed z ++ Just tok.CloseParen ∷ [])) (sym (map-append of_field xs (field n v ∷ []))) ∙ sym (of_struct p (xs ++ field n v ∷ [])))))
 
-Grows-const : (ds : List Decl) (h : Head) (v : Value) (p : ℕ) (t : Tok) → Grows (stem ds h [] ++ of_value v) (placed p t) (after_const ds h v t)
+Grows-const : (ds : List Decl) (h : Head) (v : Value) (p : ℕ) (t : TokenKind) → Grows (stem ds h [] ++ of_value v) (placed p t) (after_const ds h v t)
 Grows-const ds h v p tok.Semicolon = grows (stem ds h [] ++ of_value v) _ (Just tok.Semicolon) (placed p tok.Semicolon) (covers_same _ _ (const_end ds h v)) (p, refl)
 Grows-const ds h v p _ = tt
 
-Grows-list : (ds : List Decl) (h : Head) (fs : List Frame) (q : ℕ) (vs : List Value) (v : Value) (p : ℕ) (t : Tok) → Grows (stem ds h (frame.List q vs ∷ fs) ++ of_value v) (placed p t) (after_item ds h fs q (vs ++ v ∷ []) t)
+Grows-list : (ds : List Decl) (h : Head) (fs : List Frame) (q : ℕ) (vs : List Value) (v : Value) (p : ℕ) (t : TokenKind) → Grows (stem ds h (frame.List q vs ∷ fs) ++ of_value v) (placed p t) (after_item ds h fs q (vs ++ v ∷ []) t)
 Grows-list ds h fs q vs v p tok.Comma = pops (of_file ds ++ head_marks h) (frames_marks fs) (frame_marks (frame.List q vs)) (of_value v) _ (Just tok.Comma) (placed p tok.Comma) (covers_same _ _ (item_comma q vs v)) (p, refl)
 Grows-list ds h fs q vs v p tok.CloseBracket = pops (of_file ds ++ head_marks h) (frames_marks fs) (frame_marks (frame.List q vs)) (of_value v) _ (Just tok.CloseBracket) (placed p tok.CloseBracket) (item_close q vs v) (p, refl)
 Grows-list ds h fs q vs v p _ = tt
 
-Grows-struct : (ds : List Decl) (h : Head) (fs : List Frame) (q : ℕ) (xs : List Field) (n : Placed) (v : Value) (p : ℕ) (t : Tok) → Grows (stem ds h (frame.Struct q xs n ∷ fs) ++ of_value v) (placed p t) (after_field ds h fs q (xs ++ field n v ∷ []) t)
+Grows-struct : (ds : List Decl) (h : Head) (fs : List Frame) (q : ℕ) (xs : List Field) (n : Placed) (v : Value) (p : ℕ) (t : TokenKind) → Grows (stem ds h (frame.Struct q xs n ∷ fs) ++ of_value v) (placed p t) (after_field ds h fs q (xs ++ field n v ∷ []) t)
 Grows-struct ds h fs q xs n v p tok.Comma = pops (of_file ds ++ head_marks h) (frames_marks fs) (frame_marks (frame.Struct q xs n)) (of_value v) _ (Just tok.Comma) (placed p tok.Comma) (covers_same _ _ (field_comma q n xs v)) (p, refl)
 Grows-struct ds h fs q xs n v p tok.CloseParen = pops (of_file ds ++ head_marks h) (frames_marks fs) (frame_marks (frame.Struct q xs n)) (of_value v) _ (Just tok.CloseParen) (placed p tok.CloseParen) (field_close q n xs v) (p, refl)
 Grows-struct ds h fs q xs n v p _ = tt
 
-Grows-after : (ds : List Decl) (h : Head) (fs : List Frame) (v : Value) (p : ℕ) (t : Tok) → Grows (stem ds h fs ++ of_value v) (placed p t) (after ds h fs v t)
+Grows-after : (ds : List Decl) (h : Head) (fs : List Frame) (v : Value) (p : ℕ) (t : TokenKind) → Grows (stem ds h fs ++ of_value v) (placed p t) (after ds h fs v t)
 Grows-after ds h [] v p t = Grows-const ds h v p t
 Grows-after ds h (frame.List q vs ∷ fs) v p t = Grows-list ds h fs q vs v p t
 Grows-after ds h (frame.Struct q xs n ∷ fs) v p t = Grows-struct ds h fs q xs n v p t
@@ -235,30 +235,30 @@ Grows-after ds h (frame.Struct q xs n ∷ fs) v p t = Grows-struct ds h fs q xs 
 Grows-same : (a b : List Mark) (t : Token) (o : Step) → a ≡ b → Grows a t o → Grows b t o
 Grows-same a b t o e h = subst (λ (z : List Mark). Grows z t o) e h
 
-Grows-embed : (ds : List Decl) (h : Head) (fs : List Frame) (q p : ℕ) (t : Tok) → Grows (stem ds h fs ++ spot_marks (spot.Embed q)) (placed p t) (on_embed ds h fs q p t)
+Grows-embed : (ds : List Decl) (h : Head) (fs : List Frame) (q p : ℕ) (t : TokenKind) → Grows (stem ds h fs ++ spot_marks (spot.Embed q)) (placed p t) (on_embed ds h fs q p t)
 Grows-embed ds h fs q p (tok.Text b) = in_spot (stem ds h fs) _ _ (text (word p b)) (placed p (tok.Text b)) (sym (of_embed q (word p b))) refl
 Grows-embed ds h fs q p t = Grows-same _ _ (placed p t) (after ds h fs (value.Word (embed q)) t) (ap (λ (z : List Mark). stem ds h fs ++ z) (of_word (embed q))) (Grows-after ds h fs (value.Word (embed q)) p t)
 
-Grows-dot : (ds : List Decl) (h : Head) (fs : List Frame) (q p : ℕ) (t : Tok) → Grows (stem ds h fs ++ spot_marks (spot.Dot q)) (placed p t) (on_dot ds h fs q p t)
+Grows-dot : (ds : List Decl) (h : Head) (fs : List Frame) (q p : ℕ) (t : TokenKind) → Grows (stem ds h fs ++ spot_marks (spot.Dot q)) (placed p t) (on_dot ds h fs q p t)
 Grows-dot ds h fs q p (tok.Name b) = in_spot (stem ds h fs) _ _ (name (word p b)) (placed p (tok.Name b)) (sym (of_constant q (word p b))) refl
 Grows-dot ds h fs q p _ = tt
 
-Grows-item : (most : ℕ) (ds : List Decl) (h : Head) (fs : List Frame) (q : ℕ) (vs : List Value) (p : ℕ) (t : Tok) → Grows (stem ds h fs ++ spot_marks (spot.Item q vs)) (placed p t) (on_item most ds h fs q vs p t)
+Grows-item : (most : ℕ) (ds : List Decl) (h : Head) (fs : List Frame) (q : ℕ) (vs : List Value) (p : ℕ) (t : TokenKind) → Grows (stem ds h fs ++ spot_marks (spot.Item q vs)) (placed p t) (on_item most ds h fs q vs p t)
 Grows-item most ds h fs q vs p tok.CloseBracket = in_cover (stem ds h fs) _ _ (Just tok.CloseBracket) (placed p tok.CloseBracket) (covers_trans _ _ _ (close_none (Fixed q tok.OpenBracket) (Just tok.CloseBracket) (map of_value vs)) (covers_same _ _ (sym (of_list q vs)))) (p, refl)
 Grows-item most ds h fs q vs p t = Grows-same (stem ds h (frame.List q vs ∷ fs)) _ (placed p t) (begin most ds h (frame.List q vs ∷ fs) p t) (sym (append_assoc (of_file ds ++ head_marks h) (frames_marks fs) (frame_marks (frame.List q vs)))) (Grows-begin most ds h (frame.List q vs ∷ fs) p t)
 
-Grows-name : (ds : List Decl) (h : Head) (fs : List Frame) (q : ℕ) (xs : List Field) (p : ℕ) (t : Tok) → Grows (stem ds h fs ++ spot_marks (spot.Name q xs)) (placed p t) (on_name ds h fs q xs p t)
+Grows-name : (ds : List Decl) (h : Head) (fs : List Frame) (q : ℕ) (xs : List Field) (p : ℕ) (t : TokenKind) → Grows (stem ds h fs ++ spot_marks (spot.Name q xs)) (placed p t) (on_name ds h fs q xs p t)
 Grows-name ds h fs q xs p tok.CloseParen = in_cover (stem ds h fs) _ _ (Just tok.CloseParen) (placed p tok.CloseParen) (covers_trans _ _ _ (close_none (Fixed q tok.OpenParen) (Just tok.CloseParen) (map of_field xs)) (covers_same _ _ (sym (of_struct q xs)))) (p, refl)
 Grows-name ds h fs q xs p (tok.Name b) = in_spot (stem ds h fs) _ _ (name (word p b)) (placed p (tok.Name b)) refl refl
 Grows-name ds h fs q xs p _ = tt
 
-Grows-equals : (ds : List Decl) (h : Head) (fs : List Frame) (q : ℕ) (xs : List Field) (n : Placed) (p : ℕ) (t : Tok) → Grows (stem ds h fs ++ spot_marks (spot.Equals q xs n)) (placed p t) (on_equals ds h fs q xs n t)
+Grows-equals : (ds : List Decl) (h : Head) (fs : List Frame) (q : ℕ) (xs : List Field) (n : Placed) (p : ℕ) (t : TokenKind) → Grows (stem ds h fs ++ spot_marks (spot.Equals q xs n)) (placed p t) (on_equals ds h fs q xs n t)
 Grows-equals ds h fs q xs n p tok.Equals =
     grows (stem ds h fs ++ spot_marks (spot.Equals q xs n)) (stem ds h (frame.Struct q xs n ∷ fs) ++ []) (Just tok.Equals) (placed p tok.Equals)
     (covers_same _ _ (simp (append_assoc, append-nil))) (p, refl)
 Grows-equals ds h fs q xs n p _ = tt
 
-Grows-value : (most : ℕ) (ds : List Decl) (h : Head) (fs : List Frame) (s : Spot) (p : ℕ) (t : Tok) → Grows (stem ds h fs ++ spot_marks s) (placed p t) (in_value most ds h fs s p t)
+Grows-value : (most : ℕ) (ds : List Decl) (h : Head) (fs : List Frame) (s : Spot) (p : ℕ) (t : TokenKind) → Grows (stem ds h fs ++ spot_marks s) (placed p t) (in_value most ds h fs s p t)
 Grows-value most ds h fs spot.Begin p t = Grows-same (stem ds h fs) _ (placed p t) (begin most ds h fs p t) (sym (append-nil (stem ds h fs))) (Grows-begin most ds h fs p t)
 Grows-value most ds h fs (spot.Embed q) p t = Grows-embed ds h fs q p t
 Grows-value most ds h fs (spot.Dot q) p t = Grows-dot ds h fs q p t
@@ -274,27 +274,27 @@ Grows-decl ds p w true b e f = at_end (of_file ds) _ (keyword (codes "const")) (
 Grows-decl ds p w false true e f = at_end (of_file ds) _ (keyword (codes "using")) (placed p (tok.Name w)) refl (p, ap (λ (z : List ℕ). placed p (tok.Name z) ∷ []) (f refl))
 Grows-decl ds p w false false e f = tt
 
-Grows-begin_decl : (ds : List Decl) (p : ℕ) (t : Tok) → Grows (of_file ds) (placed p t) (begin_decl ds t)
+Grows-begin_decl : (ds : List Decl) (p : ℕ) (t : TokenKind) → Grows (of_file ds) (placed p t) (begin_decl ds t)
 Grows-begin_decl ds p (tok.Name w) = Grows-decl ds p w (bytes_eq w (codes "const")) (bytes_eq w (codes "using")) (bytes_eq-Decides w (codes "const")).0 (bytes_eq-Decides w (codes "using")).0
 Grows-begin_decl ds p tok.At = at_end (of_file ds) _ (Just tok.At) (placed p tok.At) refl (p, refl)
 Grows-begin_decl ds p _ = tt
 
-Grows-id : (ds : List Decl) (p : ℕ) (t : Tok) → Grows (spelled_at ds at.Id) (placed p t) (on_id ds p t)
+Grows-id : (ds : List Decl) (p : ℕ) (t : TokenKind) → Grows (spelled_at ds at.Id) (placed p t) (on_id ds p t)
 Grows-id ds p (tok.Hex w) = in_spot (of_file ds) _ _ (Fixed p (tok.Hex w)) (placed p (tok.Hex w)) refl refl
 Grows-id ds p _ = tt
 
 id_end : (ds : List Decl) (id : Placed) → spelled_at ds (at.IdEnd id) ++ Just tok.Semicolon ∷ [] ≡ of_file (ds ++ decl.Id id ∷ [])
 id_end ds id = simp (append_assoc, append-nil, flat_map-append)
 
-Grows-id_end : (ds : List Decl) (id : Placed) (p : ℕ) (t : Tok) → Grows (spelled_at ds (at.IdEnd id)) (placed p t) (on_id_end ds id t)
+Grows-id_end : (ds : List Decl) (id : Placed) (p : ℕ) (t : TokenKind) → Grows (spelled_at ds (at.IdEnd id)) (placed p t) (on_id_end ds id t)
 Grows-id_end ds id p tok.Semicolon = grows (spelled_at ds (at.IdEnd id)) _ (Just tok.Semicolon) (placed p tok.Semicolon) (covers_same _ _ (id_end ds id)) (p, refl)
 Grows-id_end ds id p _ = tt
 
-Grows-using_name : (ds : List Decl) (p : ℕ) (t : Tok) → Grows (spelled_at ds at.UsingName) (placed p t) (on_using_name ds p t)
+Grows-using_name : (ds : List Decl) (p : ℕ) (t : TokenKind) → Grows (spelled_at ds at.UsingName) (placed p t) (on_using_name ds p t)
 Grows-using_name ds p (tok.Name w) = in_spot (of_file ds) _ _ (name (word p w)) (placed p (tok.Name w)) refl refl
 Grows-using_name ds p _ = tt
 
-Grows-using_equals : (ds : List Decl) (n : Placed) (p : ℕ) (t : Tok) → Grows (spelled_at ds (at.UsingEquals n)) (placed p t) (on_using_equals ds n t)
+Grows-using_equals : (ds : List Decl) (n : Placed) (p : ℕ) (t : TokenKind) → Grows (spelled_at ds (at.UsingEquals n)) (placed p t) (on_using_equals ds n t)
 Grows-using_equals ds n p tok.Equals = in_spot (of_file ds) _ _ (Just tok.Equals) (placed p tok.Equals) refl (p, refl)
 Grows-using_equals ds n p _ = tt
 
@@ -302,45 +302,45 @@ Grows-import : (ds : List Decl) (n : Placed) (p : ℕ) (w : List ℕ) (a : Bool)
 Grows-import ds n p w true e = in_spot (of_file ds) _ _ (keyword (codes "import")) (placed p (tok.Name w)) refl (p, ap (λ (z : List ℕ). placed p (tok.Name z) ∷ []) (e refl))
 Grows-import ds n p w false e = tt
 
-Grows-using_import : (ds : List Decl) (n : Placed) (p : ℕ) (t : Tok) → Grows (spelled_at ds (at.UsingImport n)) (placed p t) (on_using_import ds n t)
+Grows-using_import : (ds : List Decl) (n : Placed) (p : ℕ) (t : TokenKind) → Grows (spelled_at ds (at.UsingImport n)) (placed p t) (on_using_import ds n t)
 Grows-using_import ds n p (tok.Name w) = Grows-import ds n p w (bytes_eq w (codes "import")) (bytes_eq-Decides w (codes "import")).0
 Grows-using_import ds n p _ = tt
 
-Grows-using_path : (ds : List Decl) (n : Placed) (p : ℕ) (t : Tok) → Grows (spelled_at ds (at.UsingPath n)) (placed p t) (on_using_path ds n p t)
+Grows-using_path : (ds : List Decl) (n : Placed) (p : ℕ) (t : TokenKind) → Grows (spelled_at ds (at.UsingPath n)) (placed p t) (on_using_path ds n p t)
 Grows-using_path ds n p (tok.Text w) = in_spot (of_file ds) _ _ (text (word p w)) (placed p (tok.Text w)) refl refl
 Grows-using_path ds n p _ = tt
 
 using_end : (ds : List Decl) (n w : Placed) → spelled_at ds (at.UsingEnd n w) ++ Just tok.Semicolon ∷ [] ≡ of_file (ds ++ decl.Using n w ∷ [])
 using_end ds n w = simp (append_assoc, append-nil, flat_map-append)
 
-Grows-using_end : (ds : List Decl) (n w : Placed) (p : ℕ) (t : Tok) → Grows (spelled_at ds (at.UsingEnd n w)) (placed p t) (on_using_end ds n w t)
+Grows-using_end : (ds : List Decl) (n w : Placed) (p : ℕ) (t : TokenKind) → Grows (spelled_at ds (at.UsingEnd n w)) (placed p t) (on_using_end ds n w t)
 Grows-using_end ds n w p tok.Semicolon = grows (spelled_at ds (at.UsingEnd n w)) _ (Just tok.Semicolon) (placed p tok.Semicolon) (covers_same _ _ (using_end ds n w)) (p, refl)
 Grows-using_end ds n w p _ = tt
 
-Grows-const_name : (ds : List Decl) (p : ℕ) (t : Tok) → Grows (spelled_at ds at.ConstName) (placed p t) (on_const_name ds p t)
+Grows-const_name : (ds : List Decl) (p : ℕ) (t : TokenKind) → Grows (spelled_at ds at.ConstName) (placed p t) (on_const_name ds p t)
 Grows-const_name ds p (tok.Name w) = in_spot (of_file ds) _ _ (name (word p w)) (placed p (tok.Name w)) refl refl
 Grows-const_name ds p _ = tt
 
-Grows-const_colon : (ds : List Decl) (n : Placed) (p : ℕ) (t : Tok) → Grows (spelled_at ds (at.ConstColon n)) (placed p t) (on_const_colon ds n t)
+Grows-const_colon : (ds : List Decl) (n : Placed) (p : ℕ) (t : TokenKind) → Grows (spelled_at ds (at.ConstColon n)) (placed p t) (on_const_colon ds n t)
 Grows-const_colon ds n p tok.Colon = in_spot (of_file ds) _ _ (Just tok.Colon) (placed p tok.Colon) refl (p, refl)
 Grows-const_colon ds n p _ = tt
 
-Grows-type : (ds : List Decl) (h : Head) (p : ℕ) (t : Tok) → Grows (spelled_at ds (at.Type h)) (placed p t) (on_type ds h p t)
-Grows-type ds h p (tok.Name w) = in_spot (of_file ds) _ _ (name (word p w)) (placed p (tok.Name w)) (append_assoc (head_front h.name) (pointed h.ty) (name (word p w) ∷ [])) refl
+Grows-type : (ds : List Decl) (h : Head) (p : ℕ) (t : TokenKind) → Grows (spelled_at ds (at.Type h)) (placed p t) (on_type ds h p t)
+Grows-type ds h p (tok.Name w) = in_spot (of_file ds) _ _ (name (word p w)) (placed p (tok.Name w)) (append_assoc (head_front h.name) (pointed h.type_) (name (word p w) ∷ [])) refl
 Grows-type ds h p _ = tt
 
 typed_end : (ds : List Decl) (h : Head) (w : Placed) → spelled_at ds (at.Typed h w) ++ Just tok.Equals ∷ [] ≡ stem ds (with_part h w) [] ++ []
 typed_end ds h w = simp (type_last, append_assoc, append-nil)
 
-typed_dot : (h : Head) (w : Placed) → (head_front h.name ++ (pointed h.ty ++ name w ∷ [])) ++ Just tok.Dot ∷ [] ≡ head_front h.name ++ pointed (h.ty ++ w ∷ [])
+typed_dot : (h : Head) (w : Placed) → (head_front h.name ++ (pointed h.type_ ++ name w ∷ [])) ++ Just tok.Dot ∷ [] ≡ head_front h.name ++ pointed (h.type_ ++ w ∷ [])
 typed_dot h w = simp (pointed_push, append_assoc)
 
-Grows-typed : (ds : List Decl) (h : Head) (w : Placed) (p : ℕ) (t : Tok) → Grows (spelled_at ds (at.Typed h w)) (placed p t) (on_typed ds h w t)
+Grows-typed : (ds : List Decl) (h : Head) (w : Placed) (p : ℕ) (t : TokenKind) → Grows (spelled_at ds (at.Typed h w)) (placed p t) (on_typed ds h w t)
 Grows-typed ds h w p tok.Dot = in_spot (of_file ds) _ _ (Just tok.Dot) (placed p tok.Dot) (typed_dot h w) (p, refl)
 Grows-typed ds h w p tok.Equals = grows (spelled_at ds (at.Typed h w)) _ (Just tok.Equals) (placed p tok.Equals) (covers_same _ _ (typed_end ds h w)) (p, refl)
 Grows-typed ds h w p _ = tt
 
-Grows-at : (most : ℕ) (ds : List Decl) (a : At) (p : ℕ) (t : Tok) → Grows (spelled_at ds a) (placed p t) (step_at most ds a p t)
+Grows-at : (most : ℕ) (ds : List Decl) (a : At) (p : ℕ) (t : TokenKind) → Grows (spelled_at ds a) (placed p t) (step_at most ds a p t)
 Grows-at most ds at.Decl p t = Grows-begin_decl ds p t
 Grows-at most ds at.Id p t = Grows-id ds p t
 Grows-at most ds (at.IdEnd id) p t = Grows-id_end ds id p t
@@ -356,7 +356,7 @@ Grows-at most ds (at.Typed h w) p t = Grows-typed ds h w p t
 Grows-at most ds (at.In h fs s) p t = Grows-value most ds h fs s p t
 
 Grows-step : (most : ℕ) (s : State) (t : Token) → Grows (spelled s) t (step most s t)
-Grows-step most s t = Grows-at most s.decls s.at t.place t.tok
+Grows-step most s t = Grows-at most s.decls s.at t.place t.kind
 
 -- ---- runs
 

@@ -3,8 +3,8 @@ use Rattle.std.proofs.Common.{◌≡◌, ℕ, ◌+◌, ◌<◌, ◌≤◌, Bool,
 use Rattle.std.specs.Prelude.{codes, nat_lt}
 use Rattle.std.specs.Str.{bytes_eq}
 use Rattle.std.proofs.lemmas.Bool.{lt-ltb, ltb-true}
-use Rattle.capnp_text.specs.declared.token.Tok.{Tok}
-use Rattle.capnp_text.specs.declared.token.Tok.TheVariants as tok
+use Rattle.capnp_text.specs.declared.token.TokenKind.{TokenKind}
+use Rattle.capnp_text.specs.declared.token.TokenKind.TheVariants as tok
 use Rattle.capnp_text.specs.declared.token.Token.{Token}
 use Rattle.capnp_text.specs.declared.tree.Placed.{Placed}
 use Rattle.capnp_text.specs.declared.tree.Value.{Value}
@@ -33,55 +33,55 @@ Plain (Err refusal.BadToken) = Unit {0}
 Plain (Err refusal.BadDecl) = ⊥
 Plain (Err refusal.TooDeep) = ⊥
 
-plain_const : (ds : List Decl) (h : Head) (v : Value) (t : Tok) → Plain (after_const ds h v t)
+plain_const : (ds : List Decl) (h : Head) (v : Value) (t : TokenKind) → Plain (after_const ds h v t)
 plain_const ds h v tok.Semicolon = tt
 plain_const ds h v _ = tt
 
-plain_item : (ds : List Decl) (h : Head) (fs : List Frame) (q : ℕ) (vs : List Value) (t : Tok) → Plain (after_item ds h fs q vs t)
+plain_item : (ds : List Decl) (h : Head) (fs : List Frame) (q : ℕ) (vs : List Value) (t : TokenKind) → Plain (after_item ds h fs q vs t)
 plain_item ds h fs q vs tok.Comma = tt
 plain_item ds h fs q vs tok.CloseBracket = tt
 plain_item ds h fs q vs _ = tt
 
-plain_field : (ds : List Decl) (h : Head) (fs : List Frame) (q : ℕ) (xs : List Field) (t : Tok) → Plain (after_field ds h fs q xs t)
+plain_field : (ds : List Decl) (h : Head) (fs : List Frame) (q : ℕ) (xs : List Field) (t : TokenKind) → Plain (after_field ds h fs q xs t)
 plain_field ds h fs q xs tok.Comma = tt
 plain_field ds h fs q xs tok.CloseParen = tt
 plain_field ds h fs q xs _ = tt
 
-plain_after : (ds : List Decl) (h : Head) (fs : List Frame) (v : Value) (t : Tok) → Plain (after ds h fs v t)
+plain_after : (ds : List Decl) (h : Head) (fs : List Frame) (v : Value) (t : TokenKind) → Plain (after ds h fs v t)
 plain_after ds h [] v t = plain_const ds h v t
 plain_after ds h (frame.List q vs ∷ fs) v t = plain_item ds h fs q _ t
 plain_after ds h (frame.Struct q xs n ∷ fs) v t = plain_field ds h fs q _ t
 
-plain_embed : (ds : List Decl) (h : Head) (fs : List Frame) (q p : ℕ) (t : Tok) → Plain (on_embed ds h fs q p t)
+plain_embed : (ds : List Decl) (h : Head) (fs : List Frame) (q p : ℕ) (t : TokenKind) → Plain (on_embed ds h fs q p t)
 plain_embed ds h fs q p (tok.Text b) = tt
 plain_embed ds h fs q p t = plain_after ds h fs (value.Word (embed q)) t
 
-plain_dot : (ds : List Decl) (h : Head) (fs : List Frame) (q p : ℕ) (t : Tok) → Plain (on_dot ds h fs q p t)
+plain_dot : (ds : List Decl) (h : Head) (fs : List Frame) (q p : ℕ) (t : TokenKind) → Plain (on_dot ds h fs q p t)
 plain_dot ds h fs q p (tok.Name b) = tt
 plain_dot ds h fs q p _ = tt
 
-plain_name : (ds : List Decl) (h : Head) (fs : List Frame) (q : ℕ) (xs : List Field) (p : ℕ) (t : Tok) → Plain (on_name ds h fs q xs p t)
+plain_name : (ds : List Decl) (h : Head) (fs : List Frame) (q : ℕ) (xs : List Field) (p : ℕ) (t : TokenKind) → Plain (on_name ds h fs q xs p t)
 plain_name ds h fs q xs p tok.CloseParen = tt
 plain_name ds h fs q xs p (tok.Name b) = tt
 plain_name ds h fs q xs p _ = tt
 
-plain_equals : (ds : List Decl) (h : Head) (fs : List Frame) (q : ℕ) (xs : List Field) (n : Placed) (t : Tok) → Plain (on_equals ds h fs q xs n t)
+plain_equals : (ds : List Decl) (h : Head) (fs : List Frame) (q : ℕ) (xs : List Field) (n : Placed) (t : TokenKind) → Plain (on_equals ds h fs q xs n t)
 plain_equals ds h fs q xs n tok.Equals = tt
 plain_equals ds h fs q xs n _ = tt
 
-plain_id : (ds : List Decl) (p : ℕ) (t : Tok) → Plain (on_id ds p t)
+plain_id : (ds : List Decl) (p : ℕ) (t : TokenKind) → Plain (on_id ds p t)
 plain_id ds p (tok.Hex w) = tt
 plain_id ds p _ = tt
 
-plain_id_end : (ds : List Decl) (id : Placed) (t : Tok) → Plain (on_id_end ds id t)
+plain_id_end : (ds : List Decl) (id : Placed) (t : TokenKind) → Plain (on_id_end ds id t)
 plain_id_end ds id tok.Semicolon = tt
 plain_id_end ds id _ = tt
 
-plain_using_name : (ds : List Decl) (p : ℕ) (t : Tok) → Plain (on_using_name ds p t)
+plain_using_name : (ds : List Decl) (p : ℕ) (t : TokenKind) → Plain (on_using_name ds p t)
 plain_using_name ds p (tok.Name w) = tt
 plain_using_name ds p _ = tt
 
-plain_using_equals : (ds : List Decl) (n : Placed) (t : Tok) → Plain (on_using_equals ds n t)
+plain_using_equals : (ds : List Decl) (n : Placed) (t : TokenKind) → Plain (on_using_equals ds n t)
 plain_using_equals ds n tok.Equals = tt
 plain_using_equals ds n _ = tt
 
@@ -89,31 +89,31 @@ plain_import : (ds : List Decl) (n : Placed) (r : Bool) → Plain (on_import ds 
 plain_import ds n true = tt
 plain_import ds n false = tt
 
-plain_using_import : (ds : List Decl) (n : Placed) (t : Tok) → Plain (on_using_import ds n t)
+plain_using_import : (ds : List Decl) (n : Placed) (t : TokenKind) → Plain (on_using_import ds n t)
 plain_using_import ds n (tok.Name w) = plain_import ds n (bytes_eq w (codes "import"))
 plain_using_import ds n _ = tt
 
-plain_using_path : (ds : List Decl) (n : Placed) (p : ℕ) (t : Tok) → Plain (on_using_path ds n p t)
+plain_using_path : (ds : List Decl) (n : Placed) (p : ℕ) (t : TokenKind) → Plain (on_using_path ds n p t)
 plain_using_path ds n p (tok.Text w) = tt
 plain_using_path ds n p _ = tt
 
-plain_using_end : (ds : List Decl) (n w : Placed) (t : Tok) → Plain (on_using_end ds n w t)
+plain_using_end : (ds : List Decl) (n w : Placed) (t : TokenKind) → Plain (on_using_end ds n w t)
 plain_using_end ds n w tok.Semicolon = tt
 plain_using_end ds n w _ = tt
 
-plain_const_name : (ds : List Decl) (p : ℕ) (t : Tok) → Plain (on_const_name ds p t)
+plain_const_name : (ds : List Decl) (p : ℕ) (t : TokenKind) → Plain (on_const_name ds p t)
 plain_const_name ds p (tok.Name w) = tt
 plain_const_name ds p _ = tt
 
-plain_const_colon : (ds : List Decl) (n : Placed) (t : Tok) → Plain (on_const_colon ds n t)
+plain_const_colon : (ds : List Decl) (n : Placed) (t : TokenKind) → Plain (on_const_colon ds n t)
 plain_const_colon ds n tok.Colon = tt
 plain_const_colon ds n _ = tt
 
-plain_type : (ds : List Decl) (h : Head) (p : ℕ) (t : Tok) → Plain (on_type ds h p t)
+plain_type : (ds : List Decl) (h : Head) (p : ℕ) (t : TokenKind) → Plain (on_type ds h p t)
 plain_type ds h p (tok.Name w) = tt
 plain_type ds h p _ = tt
 
-plain_typed : (ds : List Decl) (h : Head) (w : Placed) (t : Tok) → Plain (on_typed ds h w t)
+plain_typed : (ds : List Decl) (h : Head) (w : Placed) (t : TokenKind) → Plain (on_typed ds h w t)
 plain_typed ds h w tok.Dot = tt
 plain_typed ds h w tok.Equals = tt
 plain_typed ds h w _ = tt
@@ -130,7 +130,7 @@ room_decl : (n : State) (r : Bool) → (let o : Step = cond r (Ok n) (Err refusa
 room_decl n true h = cc
 room_decl n false h = cc
 
-begin_no_decl : (most : ℕ) (ds : List Decl) (h : Head) (fs : List Frame) (p : ℕ) (t : Tok) → begin most ds h fs p t ≡ Err refusal.BadDecl → ⊥
+begin_no_decl : (most : ℕ) (ds : List Decl) (h : Head) (fs : List Frame) (p : ℕ) (t : TokenKind) → begin most ds h fs p t ≡ Err refusal.BadDecl → ⊥
 begin_no_decl most ds h fs p (tok.Name b) e = by_word (bytes_eq b (codes "embed")) e
   where
     by_word : (r : Bool) → on_word ds h fs p b r ≡ Err refusal.BadDecl → ⊥
@@ -140,11 +140,11 @@ begin_no_decl most ds h fs p tok.OpenParen e = room_decl _ (nat_lt (length fs) m
 begin_no_decl most ds h fs p tok.OpenBracket e = room_decl _ (nat_lt (length fs) most) e
 begin_no_decl most ds h fs p _ e = cc
 
-item_no_decl : (most : ℕ) (ds : List Decl) (h : Head) (fs : List Frame) (q : ℕ) (vs : List Value) (p : ℕ) (t : Tok) → on_item most ds h fs q vs p t ≡ Err refusal.BadDecl → ⊥
+item_no_decl : (most : ℕ) (ds : List Decl) (h : Head) (fs : List Frame) (q : ℕ) (vs : List Value) (p : ℕ) (t : TokenKind) → on_item most ds h fs q vs p t ≡ Err refusal.BadDecl → ⊥
 item_no_decl most ds h fs q vs p tok.CloseBracket e = cc
 item_no_decl most ds h fs q vs p t e = begin_no_decl most ds h (frame.List q vs ∷ fs) p t e
 
-no_value_decl : (most : ℕ) (ds : List Decl) (h : Head) (fs : List Frame) (s : Spot) (p : ℕ) (t : Tok) → in_value most ds h fs s p t ≡ Err refusal.BadDecl → ⊥
+no_value_decl : (most : ℕ) (ds : List Decl) (h : Head) (fs : List Frame) (s : Spot) (p : ℕ) (t : TokenKind) → in_value most ds h fs s p t ≡ Err refusal.BadDecl → ⊥
 no_value_decl most ds h fs spot.Begin p t e = begin_no_decl most ds h fs p t e
 no_value_decl most ds h fs (spot.Embed q) p t e = no_decl _ (plain_embed ds h fs q p t) e
 no_value_decl most ds h fs (spot.Dot q) p t e = no_decl _ (plain_dot ds h fs q p t) e
@@ -153,7 +153,7 @@ no_value_decl most ds h fs (spot.Name q xs) p t e = no_decl _ (plain_name ds h f
 no_value_decl most ds h fs (spot.Equals q xs n) p t e = no_decl _ (plain_equals ds h fs q xs n t) e
 no_value_decl most ds h fs (spot.Done v) p t e = no_decl _ (plain_after ds h fs v t) e
 
-pub decl_refused : (ds : List Decl) (t : Tok) (k : Refusal) → begin_decl ds t ≡ Err k → k ≡ refusal.BadDecl
+pub decl_refused : (ds : List Decl) (t : TokenKind) (k : Refusal) → begin_decl ds t ≡ Err k → k ≡ refusal.BadDecl
 decl_refused ds (tok.Name w) k h = by_words (bytes_eq w (codes "const")) (bytes_eq w (codes "using")) h
   where
     by_words : (a b : Bool) → on_decl ds a b ≡ Err k → k ≡ refusal.BadDecl
@@ -178,7 +178,7 @@ wider_plain (Err refusal.BadToken) h = refl
 wider_plain (Err refusal.BadDecl) h = absurd h
 wider_plain (Err refusal.TooDeep) h = absurd h
 
-wider_decl : (ds : List Decl) (t : Tok) (o : Step) → begin_decl ds t ≡ o → Wider o o
+wider_decl : (ds : List Decl) (t : TokenKind) (o : Step) → begin_decl ds t ≡ o → Wider o o
 wider_decl ds t (Ok n) h = refl
 wider_decl ds t (Err refusal.BadToken) h = refl
 wider_decl ds t (Err refusal.BadDecl) h = refl
@@ -192,7 +192,7 @@ module _ (most : ℕ) where
   room : (fs : List Frame) (n : State) → length fs ≤ most → Wider (if_room most fs (Ok n)) (if_room (most + 1) fs (Ok n))
   room fs n l = wider_room fs n (nat_lt (length fs) most) (ltb-true (length fs) most) l refl
 
-  wider_begin : (ds : List Decl) (h : Head) (fs : List Frame) (p : ℕ) (t : Tok) → length fs ≤ most → Wider (begin most ds h fs p t) (begin (most + 1) ds h fs p t)
+  wider_begin : (ds : List Decl) (h : Head) (fs : List Frame) (p : ℕ) (t : TokenKind) → length fs ≤ most → Wider (begin most ds h fs p t) (begin (most + 1) ds h fs p t)
   wider_begin ds h fs p (tok.Name b) l = by_word (bytes_eq b (codes "embed"))
     where
       by_word : (r : Bool) → Wider (on_word ds h fs p b r) (on_word ds h fs p b r)
@@ -202,11 +202,11 @@ module _ (most : ℕ) where
   wider_begin ds h fs p tok.OpenBracket l = room fs _ l
   wider_begin ds h fs p _ l = refl
 
-  wider_item : (ds : List Decl) (h : Head) (fs : List Frame) (q : ℕ) (vs : List Value) (p : ℕ) (t : Tok) → length fs + 1 ≤ most → Wider (on_item most ds h fs q vs p t) (on_item (most + 1) ds h fs q vs p t)
+  wider_item : (ds : List Decl) (h : Head) (fs : List Frame) (q : ℕ) (vs : List Value) (p : ℕ) (t : TokenKind) → length fs + 1 ≤ most → Wider (on_item most ds h fs q vs p t) (on_item (most + 1) ds h fs q vs p t)
   wider_item ds h fs q vs p tok.CloseBracket l = refl
   wider_item ds h fs q vs p t l = wider_begin ds h (frame.List q vs ∷ fs) p t (omega arith)
 
-  wider_value : (ds : List Decl) (h : Head) (fs : List Frame) (s : Spot) (p : ℕ) (t : Tok) → FineSpot most (length fs) s → Wider (in_value most ds h fs s p t) (in_value (most + 1) ds h fs s p t)
+  wider_value : (ds : List Decl) (h : Head) (fs : List Frame) (s : Spot) (p : ℕ) (t : TokenKind) → FineSpot most (length fs) s → Wider (in_value most ds h fs s p t) (in_value (most + 1) ds h fs s p t)
   wider_value ds h fs spot.Begin p t f = wider_begin ds h fs p t f
   wider_value ds h fs (spot.Embed q) p t f = wider_plain _ (plain_embed ds h fs q p t)
   wider_value ds h fs (spot.Dot q) p t f = wider_plain _ (plain_dot ds h fs q p t)
@@ -215,7 +215,7 @@ module _ (most : ℕ) where
   wider_value ds h fs (spot.Equals q xs n) p t f = wider_plain _ (plain_equals ds h fs q xs n t)
   wider_value ds h fs (spot.Done v) p t f = wider_plain _ (plain_after ds h fs v t)
 
-  wider_at : (ds : List Decl) (a : At) (p : ℕ) (t : Tok) → FineAt most a → Wider (step_at most ds a p t) (step_at (most + 1) ds a p t)
+  wider_at : (ds : List Decl) (a : At) (p : ℕ) (t : TokenKind) → FineAt most a → Wider (step_at most ds a p t) (step_at (most + 1) ds a p t)
   wider_at ds at.Decl p t f = wider_decl ds t (begin_decl ds t) refl
   wider_at ds at.Id p t f = wider_plain _ (plain_id ds p t)
   wider_at ds (at.IdEnd id) p t f = wider_plain _ (plain_id_end ds id t)
@@ -231,7 +231,7 @@ module _ (most : ℕ) where
   wider_at ds (at.In h fs s) p t f = wider_value ds h fs s p t f.2
 
   pub wider_step : (s : State) (t : Token) → Fine most s → Wider (step most s t) (step (most + 1) s t)
-  wider_step s t f = wider_at s.decls s.at t.place t.tok f.here
+  wider_step s t f = wider_at s.decls s.at t.place t.kind f.here
 
   wider_taken : (t : Token) (ts : List Token) (n : State) (o wide : Step) → Wider o wide → FineStep most o → ((m : State) → Fine most m → run (step most) m ts ≡ Ok n → run (step (most + 1)) m ts ≡ Ok n)
       → taken o t ts (λ x. run (step most) x ts) ≡ Ok n → taken wide t ts (λ x. run (step (most + 1)) x ts) ≡ Ok n
@@ -247,7 +247,7 @@ module _ (most : ℕ) where
   wider_read ts n h = wider_run ts start n (fine_start most) h
 
   -- A bad declaration is refused between declarations.
-  bad_decl_at : (ds : List Decl) (a : At) (p : ℕ) (t : Tok) → FineAt most a → step_at most ds a p t ≡ Err refusal.BadDecl → a ≡ at.Decl
+  bad_decl_at : (ds : List Decl) (a : At) (p : ℕ) (t : TokenKind) → FineAt most a → step_at most ds a p t ≡ Err refusal.BadDecl → a ≡ at.Decl
   bad_decl_at ds at.Decl p t f h = refl
   bad_decl_at ds at.Id p t f h = absurd (no_decl _ (plain_id ds p t) h)
   bad_decl_at ds (at.IdEnd id) p t f h = absurd (no_decl _ (plain_id_end ds id t) h)
@@ -263,4 +263,4 @@ module _ (most : ℕ) where
   bad_decl_at ds (at.In w fs s) p t f h = absurd (no_value_decl most ds w fs s p t h)
 
   pub bad_decl : (s : State) (t : Token) → Fine most s → step most s t ≡ Err refusal.BadDecl → s.at ≡ at.Decl
-  bad_decl s t f h = bad_decl_at s.decls s.at t.place t.tok f.here h
+  bad_decl s t f h = bad_decl_at s.decls s.at t.place t.kind f.here h

@@ -1,7 +1,7 @@
 -- The bytes of a text, by their ASCII codes.
 use Rattle.std.specs.Prelude.{ℕ, ◌+◌, ◌-◌, ◌*◌, Bool, cond, ◌&&◌, ◌||◌, ◌==◌, nat_le, Option, Some, None}
-use Rattle.capnp_text.specs.declared.token.Tok.{Tok}
-use Rattle.capnp_text.specs.declared.token.Tok.TheVariants as tok
+use Rattle.capnp_text.specs.declared.token.TokenKind.{TokenKind}
+use Rattle.capnp_text.specs.declared.token.TokenKind.TheVariants as tok
 
 abbrev pub is_between : ℕ → ℕ → ℕ → Bool
 is_between low high b = nat_le low b && nat_le b high
@@ -43,7 +43,7 @@ abbrev pub escaped : ℕ → ℕ
 escaped b = cond (b == 110) 10 (cond (b == 116) 9 (cond (b == 114) 13 b))
 
 -- the token of one byte
-abbrev pub sign : ℕ → Option Tok
+abbrev pub sign : ℕ → Option TokenKind
 sign b =
     cond (b == 44) (Some tok.Comma)
     (cond (b == 61) (Some tok.Equals)

@@ -1,6 +1,6 @@
 -- The grammar: the tokens of a tree.
 use Rattle.std.specs.Prelude.{ℕ, ◌+◌, ◌≤◌, max, List, [], ◌∷◌, ◌++◌, codes, flat_map}
-use Rattle.capnp_text.specs.declared.token.Tok.TheVariants as tok
+use Rattle.capnp_text.specs.declared.token.TokenKind.TheVariants as tok
 use Rattle.capnp_text.specs.declared.token.Token.{Token}
 use Rattle.capnp_text.specs.declared.tree.Placed.{Placed}
 use Rattle.capnp_text.specs.declared.tree.Value.{Value}
@@ -83,7 +83,7 @@ of_type (w ∷ ws) = name w ∷ dotted ws
 abbrev pub of_decl : Decl → List Mark
 of_decl (decl.Using n path) = keyword (codes "using") ∷ name n ∷ Just tok.Equals ∷ keyword (codes "import") ∷ text path ∷ Just tok.Semicolon ∷ []
 of_decl (decl.Id id) = Just tok.At ∷ At id.place (tok.Hex id.bytes) ∷ Just tok.Semicolon ∷ []
-of_decl (decl.Const n ty v) = keyword (codes "const") ∷ name n ∷ Just tok.Colon ∷ (of_type ty ++ Just tok.Equals ∷ (of_value v ++ Just tok.Semicolon ∷ []))
+of_decl (decl.Const n type_ v) = keyword (codes "const") ∷ name n ∷ Just tok.Colon ∷ (of_type type_ ++ Just tok.Equals ∷ (of_value v ++ Just tok.Semicolon ∷ []))
 
 abbrev pub of_file : List Decl → List Mark
 of_file ds = flat_map of_decl ds
@@ -97,7 +97,7 @@ HasParts (w ∷ ws) = Unit {0}
 abbrev pub Fits : ℕ → Decl → Type 0
 Fits most (decl.Using n path) = Unit {0}
 Fits most (decl.Id id) = Unit {0}
-Fits most (decl.Const n ty v) = HasParts ty × (depth v ≤ most)
+Fits most (decl.Const n type_ v) = HasParts type_ × (depth v ≤ most)
 
 abbrev pub AllFit : ℕ → List Decl → Type 0
 AllFit most [] = Unit {0}

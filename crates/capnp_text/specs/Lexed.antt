@@ -1,7 +1,7 @@
 -- A text is blanks, comments and tokens. Behind a name or a number stands no byte of a name.
 use Rattle.std.specs.Prelude.{◌≡◌, ℕ, ◌+◌, Bool, true, false, not, ◌||◌, ◌==◌, List, [], ◌∷◌, ◌++◌, ◌⊎◌, length, map, flat_map, replicate, Some}
-use Rattle.capnp_text.specs.declared.token.Tok.{Tok}
-use Rattle.capnp_text.specs.declared.token.Tok.TheVariants as tok
+use Rattle.capnp_text.specs.declared.token.TokenKind.{TokenKind}
+use Rattle.capnp_text.specs.declared.token.TokenKind.TheVariants as tok
 use Rattle.capnp_text.specs.declared.token.Token.{Token}
 use Rattle.capnp_text.specs.declared.scan.Tokens.{Tokens}
 use Rattle.capnp_text.specs.declared.scan.Stop.{Stop}
@@ -75,7 +75,7 @@ pub data Piece : Type 0 where
   Hex : ℕ → List ℕ → Piece
   Text : List Letter → Piece
   Data : List Pair → Piece
-  Sign : ℕ → Tok → Piece
+  Sign : ℕ → TokenKind → Piece
 
 abbrev pub piece_bytes : Piece → List ℕ
 piece_bytes (Blank b) = b ∷ []
@@ -127,12 +127,12 @@ ArePieces (p ∷ ps) tail = IsPiece p × Ends p (text_of ps ++ tail) × ArePiece
 abbrev pub piece_tokens : Piece → ℕ → List Token
 piece_tokens (Blank b) n = []
 piece_tokens (Comment c) n = []
-piece_tokens (Name b w) n = record { place = n; tok = tok.Name (b ∷ w) } ∷ []
-piece_tokens (Number b w) n = record { place = n; tok = tok.Number (b ∷ w) } ∷ []
-piece_tokens (Hex b w) n = record { place = n; tok = tok.Hex (b ∷ w) } ∷ []
-piece_tokens (Text ls) n = record { place = n; tok = tok.Text (map letter_value ls) } ∷ []
-piece_tokens (Data ps) n = record { place = n; tok = tok.Data (map pair_value ps) } ∷ []
-piece_tokens (Sign b t) n = record { place = n; tok = t } ∷ []
+piece_tokens (Name b w) n = record { place = n; kind = tok.Name (b ∷ w) } ∷ []
+piece_tokens (Number b w) n = record { place = n; kind = tok.Number (b ∷ w) } ∷ []
+piece_tokens (Hex b w) n = record { place = n; kind = tok.Hex (b ∷ w) } ∷ []
+piece_tokens (Text ls) n = record { place = n; kind = tok.Text (map letter_value ls) } ∷ []
+piece_tokens (Data ps) n = record { place = n; kind = tok.Data (map pair_value ps) } ∷ []
+piece_tokens (Sign b t) n = record { place = n; kind = t } ∷ []
 
 abbrev pub tokens_of : ℕ → List Piece → List Token
 tokens_of n [] = []

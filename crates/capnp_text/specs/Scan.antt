@@ -1,7 +1,7 @@
 -- What each byte does.
 use Rattle.std.specs.Prelude.{◌≡◌, ℕ, ◌+◌, Bool, true, false, cond, ◌==◌, List, [], ◌∷◌, ◌++◌, Option, Some, None, Result, Ok, Err}
-use Rattle.capnp_text.specs.declared.token.Tok.{Tok}
-use Rattle.capnp_text.specs.declared.token.Tok.TheVariants as tok
+use Rattle.capnp_text.specs.declared.token.TokenKind.{TokenKind}
+use Rattle.capnp_text.specs.declared.token.TokenKind.TheVariants as tok
 use Rattle.capnp_text.specs.declared.token.Token.{Token}
 use Rattle.capnp_text.specs.declared.scan.Open.{Open}
 use Rattle.capnp_text.specs.declared.scan.Open.TheVariants as o
@@ -23,10 +23,10 @@ to ts x = Ok (record { tokens = ts; begun = x })
 abbrev pub refused : List Token → Scanned
 refused ts = Err ts
 
-abbrev pub with_token : List Token → ℕ → Tok → List Token
-with_token ts p t = ts ++ record { place = p; tok = t } ∷ []
+abbrev pub with_token : List Token → ℕ → TokenKind → List Token
+with_token ts p t = ts ++ record { place = p; kind = t } ∷ []
 
-abbrev pub signed : List Token → ℕ → Option Tok → Scanned
+abbrev pub signed : List Token → ℕ → Option TokenKind → Scanned
 signed ts p (Some t) = to (with_token ts p t) o.Gap
 signed ts p None = refused ts
 

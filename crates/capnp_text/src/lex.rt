@@ -4,7 +4,7 @@ ghost use Rattle.capnp_text.specs.Scan as spec;
 ghost use Rattle.capnp_text.specs.Scan.{Scans};
 
 use crate::scan::{Open, Scan, ScanEnd, Stop, Tokens};
-use crate::token::{Tok, Token};
+use crate::token::{Token, TokenKind};
 use std::alloc::Global;
 use wd_base::{Bytes, NoMemory, Seq};
 
@@ -81,20 +81,20 @@ fn escaped(byte: u8) -> u8
 }
 
 /// The token of one byte.
-fn sign(byte: u8) -> Option<Tok>
+fn sign(byte: u8) -> Option<TokenKind>
     ensures { result ≡ chars.sign byte }
 {
     match byte {
-        b',' => Some(Tok::Comma),
-        b'=' => Some(Tok::Equals),
-        b';' => Some(Tok::Semicolon),
-        b':' => Some(Tok::Colon),
-        b'.' => Some(Tok::Dot),
-        b'@' => Some(Tok::At),
-        b'(' => Some(Tok::OpenParen),
-        b')' => Some(Tok::CloseParen),
-        b'[' => Some(Tok::OpenBracket),
-        b']' => Some(Tok::CloseBracket),
+        b',' => Some(TokenKind::Comma),
+        b'=' => Some(TokenKind::Equals),
+        b';' => Some(TokenKind::Semicolon),
+        b':' => Some(TokenKind::Colon),
+        b'.' => Some(TokenKind::Dot),
+        b'@' => Some(TokenKind::At),
+        b'(' => Some(TokenKind::OpenParen),
+        b')' => Some(TokenKind::CloseParen),
+        b'[' => Some(TokenKind::OpenBracket),
+        b']' => Some(TokenKind::CloseBracket),
         _ => None,
     }
 }
@@ -111,11 +111,11 @@ fn refuse(tokens: Seq<Token>) -> Result<Scan, ScanEnd>
     Err(ScanEnd::Bad(tokens))
 }
 
-fn with_token(tokens: Seq<Token>, place: usize, tok: Tok) -> Result<Seq<Token>, NoMemory>
-    ensures { IfOk result (λ list. list ≡ spec.with_token tokens place tok) }
+fn with_token(tokens: Seq<Token>, place: usize, kind: TokenKind) -> Result<Seq<Token>, NoMemory>
+    ensures { IfOk result (λ list. list ≡ spec.with_token tokens place kind) }
 {
     let mut tokens = tokens;
-    tokens.push(Token { place, tok })?;
+    tokens.push(Token { place, kind })?;
     Ok(tokens)
 }
 
@@ -154,11 +154,11 @@ fn gap(alloc: Global, tokens: Seq<Token>, place: usize, byte: u8) -> Result<Scan
     }
 }
 
-fn signed(tokens: Seq<Token>, place: usize, sign: Option<Tok>) -> Result<Scan, ScanEnd>
+fn signed(tokens: Seq<Token>, place: usize, sign: Option<TokenKind>) -> Result<Scan, ScanEnd>
     ensures { Scans (spec.signed tokens place sign) result }
 {
     match sign {
-        Some(tok) => to(with_token(tokens, place, tok)?, Open::Gap),
+        Some(kind) => to(with_token(tokens, place, kind)?, Open::Gap),
         None => refuse(tokens),
     }
 }
@@ -187,7 +187,7 @@ fn in_name(
     if is_inner(byte) {
         to(tokens, Open::Name(begin, with_byte(name, byte)?))
     } else {
-        let tokens = with_token(tokens, begin, Tok::Name(name))?;
+        let tokens = with_token(tokens, begin, TokenKind::Name(name))?;
         gap(alloc, tokens, place, byte)
     }
 }
@@ -205,7 +205,7 @@ fn in_number(
     if is_digit(byte) {
         to(tokens, Open::Number(begin, with_byte(digits, byte)?))
     } else {
-        let tokens = with_token(tokens, begin, Tok::Number(digits))?;
+        let tokens = with_token(tokens, begin, TokenKind::Number(digits))?;
         behind(alloc, tokens, place, byte)
     }
 }
@@ -252,7 +252,7 @@ fn in_hex(
     if is_hex(byte) {
         to(tokens, Open::Hex(begin, with_byte(digits, byte)?))
     } else {
-        let tokens = with_token(tokens, begin, Tok::Hex(digits))?;
+        let tokens = with_token(tokens, begin, TokenKind::Hex(digits))?;
         behind(alloc, tokens, place, byte)
     }
 }
@@ -261,7 +261,7 @@ fn in_text(tokens: Seq<Token>, begin: usize, text: Bytes, byte: u8) -> Result<Sc
     ensures { Scans (spec.in_text tokens begin text byte) result }
 {
     if byte == b'"' {
-        to(with_token(tokens, begin, Tok::Text(text))?, Open::Gap)
+        to(with_token(tokens, begin, TokenKind::Text(text))?, Open::Gap)
     } else if byte == b'\\' {
         to(tokens, Open::Escape(begin, text))
     } else if byte == b'\n' {
@@ -316,7 +316,10 @@ fn in_data(tokens: Seq<Token>, begin: usize, bytes: Bytes, byte: u8) -> Result<S
     ensures { Scans (spec.in_data tokens begin bytes byte) result }
 {
     if byte == b'"' {
-        to(with_token(tokens, begin, Tok::Data(bytes))?, Open::Gap)
+        to(
+            with_token(tokens, begin, TokenKind::Data(bytes))?,
+            Open::Gap,
+        )
     } else if is_hex(byte) {
         to(tokens, Open::DataLow(begin, bytes, byte))
     } else {
@@ -404,10 +407,10 @@ fn whole(alloc: Global, tokens: Seq<Token>, begun: Open) -> Result<Seq<Token>, N
     ensures { IfOk result (λ list. list ≡ spec.whole tokens begun) }
 {
     match begun {
-        Open::Name(begin, name) => with_token(tokens, begin, Tok::Name(name)),
-        Open::Zero(begin) => with_token(tokens, begin, Tok::Number(one(alloc, b'0')?)),
-        Open::Number(begin, digits) => with_token(tokens, begin, Tok::Number(digits)),
-        Open::Hex(begin, digits) => with_token(tokens, begin, Tok::Hex(digits)),
+        Open::Name(begin, name) => with_token(tokens, begin, TokenKind::Name(name)),
+        Open::Zero(begin) => with_token(tokens, begin, TokenKind::Number(one(alloc, b'0')?)),
+        Open::Number(begin, digits) => with_token(tokens, begin, TokenKind::Number(digits)),
+        Open::Hex(begin, digits) => with_token(tokens, begin, TokenKind::Hex(digits)),
         _other => Ok(tokens),
     }
 }

@@ -6,7 +6,7 @@ use wd_base::{NoMemory, Seq};
 #[derive(Debug, Drop)]
 pub struct Head {
     pub name: Placed,
-    pub ty: Seq<Placed>,
+    pub type_: Seq<Placed>,
 }
 
 /// An open bracket with what it has so far, which waits for a value.

@@ -6,7 +6,7 @@ ghost use Rattle.capnp_text.specs.Steps.{Steps};
 
 use crate::machine::{At, Frame, Head, Refusal, Spot, State, StepEnd};
 use crate::stack::Stack;
-use crate::token::{Tok, Token};
+use crate::token::{Token, TokenKind};
 use crate::tree::{Decl, Field, Placed, Value};
 use std::alloc::Global;
 use wd_base::{Bytes, NoMemory, Seq};
@@ -72,28 +72,28 @@ fn begin(
     frames: Stack<Frame>,
     token: Token,
 ) -> Result<State, StepEnd>
-    ensures { Steps (spec.begin most_open decls head frames token.place token.tok) result }
+    ensures { Steps (spec.begin most_open decls head frames token.place token.kind) result }
 {
-    let Token { place, tok } = token;
-    let spot = match tok {
-        Tok::Text(bytes) => Spot::Done(Value::Text(Placed { place, bytes })),
-        Tok::Data(bytes) => Spot::Done(Value::Data(Placed { place, bytes })),
-        Tok::Number(bytes) => Spot::Done(Value::Number(Placed { place, bytes })),
-        Tok::Name(bytes) => {
+    let Token { place, kind } = token;
+    let spot = match kind {
+        TokenKind::Text(bytes) => Spot::Done(Value::Text(Placed { place, bytes })),
+        TokenKind::Data(bytes) => Spot::Done(Value::Data(Placed { place, bytes })),
+        TokenKind::Number(bytes) => Spot::Done(Value::Number(Placed { place, bytes })),
+        TokenKind::Name(bytes) => {
             if is_word(&bytes, b"embed") {
                 Spot::Embed(place)
             } else {
                 Spot::Done(Value::Word(Placed { place, bytes }))
             }
         }
-        Tok::Dot => Spot::Dot(place),
-        Tok::OpenParen => {
+        TokenKind::Dot => Spot::Dot(place),
+        TokenKind::OpenParen => {
             if !has_room(&frames) {
                 return refuse(Refusal::TooDeep);
             }
             Spot::Name(place, Seq::new(alloc))
         }
-        Tok::OpenBracket => {
+        TokenKind::OpenBracket => {
             if !has_room(&frames) {
                 return refuse(Refusal::TooDeep);
             }
@@ -105,13 +105,18 @@ fn begin(
 }
 
 /// The value of a constant is complete, and a token comes.
-fn after_const(decls: Seq<Decl>, head: Head, value: Value, tok: Tok) -> Result<State, StepEnd>
-    ensures { Steps (spec.after_const decls head value tok) result }
+fn after_const(
+    decls: Seq<Decl>,
+    head: Head,
+    value: Value,
+    kind: TokenKind,
+) -> Result<State, StepEnd>
+    ensures { Steps (spec.after_const decls head value kind) result }
 {
-    match tok {
-        Tok::Semicolon => {
-            let Head { name, ty } = head;
-            to(with(decls, Decl::Const { name, ty, value })?, At::Decl)
+    match kind {
+        TokenKind::Semicolon => {
+            let Head { name, type_ } = head;
+            to(with(decls, Decl::Const { name, type_, value })?, At::Decl)
         }
         _other => bad(),
     }
@@ -124,13 +129,13 @@ fn after_item(
     frames: Stack<Frame>,
     opened: usize,
     items: Seq<Value>,
-    tok: Tok,
+    kind: TokenKind,
 ) -> Result<State, StepEnd>
-    ensures { Steps (spec.after_item decls head frames opened items tok) result }
+    ensures { Steps (spec.after_item decls head frames opened items kind) result }
 {
-    match tok {
-        Tok::Comma => stay(decls, head, frames, Spot::Item(opened, items)),
-        Tok::CloseBracket => {
+    match kind {
+        TokenKind::Comma => stay(decls, head, frames, Spot::Item(opened, items)),
+        TokenKind::CloseBracket => {
             let list = Value::List(opened, items);
             stay(decls, head, frames, Spot::Done(list))
         }
@@ -145,13 +150,13 @@ fn after_field(
     frames: Stack<Frame>,
     opened: usize,
     fields: Seq<Field>,
-    tok: Tok,
+    kind: TokenKind,
 ) -> Result<State, StepEnd>
-    ensures { Steps (spec.after_field decls head frames opened fields tok) result }
+    ensures { Steps (spec.after_field decls head frames opened fields kind) result }
 {
-    match tok {
-        Tok::Comma => stay(decls, head, frames, Spot::Name(opened, fields)),
-        Tok::CloseParen => {
+    match kind {
+        TokenKind::Comma => stay(decls, head, frames, Spot::Name(opened, fields)),
+        TokenKind::CloseParen => {
             let value = Value::Struct(opened, fields);
             stay(decls, head, frames, Spot::Done(value))
         }
@@ -165,20 +170,20 @@ fn after(
     head: Head,
     frames: Stack<Frame>,
     value: Value,
-    tok: Tok,
+    kind: TokenKind,
 ) -> Result<State, StepEnd>
-    ensures { Steps (spec.after decls head frames value tok) result }
+    ensures { Steps (spec.after decls head frames value kind) result }
 {
     let mut frames = frames;
     match frames.pop() {
-        None => after_const(decls, head, value, tok),
+        None => after_const(decls, head, value, kind),
         Some(Frame::List(opened, items)) => {
             let items = with(items, value)?;
-            after_item(decls, head, frames, opened, items, tok)
+            after_item(decls, head, frames, opened, items, kind)
         }
         Some(Frame::Struct(opened, fields, name)) => {
             let fields = with(fields, Field { name, value })?;
-            after_field(decls, head, frames, opened, fields, tok)
+            after_field(decls, head, frames, opened, fields, kind)
         }
     }
 }
@@ -193,14 +198,14 @@ fn on_embed(
     begin: usize,
     token: Token,
 ) -> Result<State, StepEnd>
-    ensures { Steps (spec.on_embed decls head frames begin token.place token.tok) result }
+    ensures { Steps (spec.on_embed decls head frames begin token.place token.kind) result }
 {
-    let Token { place, tok } = token;
-    if let Tok::Text(bytes) = tok {
+    let Token { place, kind } = token;
+    if let TokenKind::Text(bytes) = kind {
         let path = Placed { place, bytes };
         return stay(decls, head, frames, Spot::Done(Value::Embed(begin, path)));
     }
-    after(decls, head, frames, Value::Word(embed(alloc, begin)?), tok)
+    after(decls, head, frames, Value::Word(embed(alloc, begin)?), kind)
 }
 
 fn on_dot(
@@ -210,11 +215,11 @@ fn on_dot(
     begin: usize,
     token: Token,
 ) -> Result<State, StepEnd>
-    ensures { Steps (spec.on_dot decls head frames begin token.place token.tok) result }
+    ensures { Steps (spec.on_dot decls head frames begin token.place token.kind) result }
 {
-    let Token { place, tok } = token;
-    match tok {
-        Tok::Name(bytes) => {
+    let Token { place, kind } = token;
+    match kind {
+        TokenKind::Name(bytes) => {
             let value = Value::Constant(begin, Placed { place, bytes });
             stay(decls, head, frames, Spot::Done(value))
         }
@@ -231,10 +236,15 @@ fn on_item(
     items: Seq<Value>,
     token: Token,
 ) -> Result<State, StepEnd>
-    ensures { Steps (spec.on_item most_open decls head frames opened items token.place token.tok) result }
+    ensures { Steps (spec.on_item most_open decls head frames opened items token.place token.kind) result }
 {
-    match &token.tok {
-        Tok::CloseBracket => stay(decls, head, frames, Spot::Done(Value::List(opened, items))),
+    match &token.kind {
+        TokenKind::CloseBracket => stay(
+            decls,
+            head,
+            frames,
+            Spot::Done(Value::List(opened, items)),
+        ),
         _ => {
             let frames = frames.with(Frame::List(opened, items))?;
             begin(alloc, decls, head, frames, token)
@@ -250,17 +260,17 @@ fn on_name(
     fields: Seq<Field>,
     token: Token,
 ) -> Result<State, StepEnd>
-    ensures { Steps (spec.on_name decls head frames opened fields token.place token.tok) result }
+    ensures { Steps (spec.on_name decls head frames opened fields token.place token.kind) result }
 {
-    let Token { place, tok } = token;
-    match tok {
-        Tok::CloseParen => stay(
+    let Token { place, kind } = token;
+    match kind {
+        TokenKind::CloseParen => stay(
             decls,
             head,
             frames,
             Spot::Done(Value::Struct(opened, fields)),
         ),
-        Tok::Name(bytes) => {
+        TokenKind::Name(bytes) => {
             let name = Placed { place, bytes };
             stay(decls, head, frames, Spot::Equals(opened, fields, name))
         }
@@ -275,12 +285,12 @@ fn on_equals(
     opened: usize,
     fields: Seq<Field>,
     name: Placed,
-    tok: Tok,
+    kind: TokenKind,
 ) -> Result<State, StepEnd>
-    ensures { Steps (spec.on_equals decls head frames opened fields name tok) result }
+    ensures { Steps (spec.on_equals decls head frames opened fields name kind) result }
 {
-    match tok {
-        Tok::Equals => {
+    match kind {
+        TokenKind::Equals => {
             let frames = frames.with(Frame::Struct(opened, fields, name))?;
             stay(decls, head, frames, Spot::Begin)
         }
@@ -296,7 +306,7 @@ fn in_value(
     spot: Spot,
     token: Token,
 ) -> Result<State, StepEnd>
-    ensures { Steps (spec.in_value most_open decls head frames spot token.place token.tok) result }
+    ensures { Steps (spec.in_value most_open decls head frames spot token.place token.kind) result }
 {
     match spot {
         Spot::Begin => begin(alloc, decls, head, frames, token),
@@ -305,17 +315,17 @@ fn in_value(
         Spot::Item(opened, items) => on_item(alloc, decls, head, frames, opened, items, token),
         Spot::Name(opened, fields) => on_name(decls, head, frames, opened, fields, token),
         Spot::Equals(opened, fields, name) => {
-            on_equals(decls, head, frames, opened, fields, name, token.tok)
+            on_equals(decls, head, frames, opened, fields, name, token.kind)
         }
-        Spot::Done(value) => after(decls, head, frames, value, token.tok),
+        Spot::Done(value) => after(decls, head, frames, value, token.kind),
     }
 }
 
-fn begin_decl(decls: Seq<Decl>, tok: Tok) -> Result<State, StepEnd>
-    ensures { Steps (spec.begin_decl decls tok) result }
+fn begin_decl(decls: Seq<Decl>, kind: TokenKind) -> Result<State, StepEnd>
+    ensures { Steps (spec.begin_decl decls kind) result }
 {
-    match tok {
-        Tok::Name(word) => {
+    match kind {
+        TokenKind::Name(word) => {
             if is_word(&word, b"const") {
                 to(decls, At::ConstName)
             } else if is_word(&word, b"using") {
@@ -324,17 +334,17 @@ fn begin_decl(decls: Seq<Decl>, tok: Tok) -> Result<State, StepEnd>
                 refuse(Refusal::BadDecl)
             }
         }
-        Tok::At => to(decls, At::Id),
+        TokenKind::At => to(decls, At::Id),
         _other => refuse(Refusal::BadDecl),
     }
 }
 
 fn on_type(decls: Seq<Decl>, head: Head, token: Token) -> Result<State, StepEnd>
-    ensures { Steps (spec.on_type decls head token.place token.tok) result }
+    ensures { Steps (spec.on_type decls head token.place token.kind) result }
 {
-    let Token { place, tok } = token;
-    match tok {
-        Tok::Name(bytes) => to(decls, At::Typed(head, Placed { place, bytes })),
+    let Token { place, kind } = token;
+    match kind {
+        TokenKind::Name(bytes) => to(decls, At::Typed(head, Placed { place, bytes })),
         _other => bad(),
     }
 }
@@ -344,16 +354,16 @@ fn on_typed(
     decls: Seq<Decl>,
     head: Head,
     last: Placed,
-    tok: Tok,
+    kind: TokenKind,
 ) -> Result<State, StepEnd>
-    ensures { Steps (spec.on_typed decls head last tok) result }
+    ensures { Steps (spec.on_typed decls head last kind) result }
 {
-    let Head { name, ty } = head;
-    let ty = with(ty, last)?;
-    let head = Head { name, ty };
-    match tok {
-        Tok::Dot => to(decls, At::Type(head)),
-        Tok::Equals => stay(decls, head, Stack::new(alloc), Spot::Begin),
+    let Head { name, type_ } = head;
+    let type_ = with(type_, last)?;
+    let head = Head { name, type_ };
+    match kind {
+        TokenKind::Dot => to(decls, At::Type(head)),
+        TokenKind::Equals => stay(decls, head, Stack::new(alloc), Spot::Begin),
         _other => bad(),
     }
 }
@@ -364,65 +374,65 @@ pub fn step(alloc: Global, state: State, token: Token) -> Result<State, StepEnd>
 {
     let State { decls, at } = state;
     match at {
-        At::Decl => begin_decl(decls, token.tok),
+        At::Decl => begin_decl(decls, token.kind),
         At::Type(head) => on_type(decls, head, token),
-        At::Typed(head, last) => on_typed(alloc, decls, head, last, token.tok),
+        At::Typed(head, last) => on_typed(alloc, decls, head, last, token.kind),
         At::In(head, frames, spot) => in_value(alloc, decls, head, frames, spot, token),
         At::Id => on_id(decls, token),
-        At::IdEnd(id) => on_id_end(decls, id, token.tok),
+        At::IdEnd(id) => on_id_end(decls, id, token.kind),
         At::UsingName => on_using_name(decls, token),
-        At::UsingEquals(name) => on_using_equals(decls, name, token.tok),
-        At::UsingImport(name) => on_using_import(decls, name, token.tok),
+        At::UsingEquals(name) => on_using_equals(decls, name, token.kind),
+        At::UsingImport(name) => on_using_import(decls, name, token.kind),
         At::UsingPath(name) => on_using_path(decls, name, token),
-        At::UsingEnd(name, path) => on_using_end(decls, name, path, token.tok),
+        At::UsingEnd(name, path) => on_using_end(decls, name, path, token.kind),
         At::ConstName => on_const_name(decls, token),
-        At::ConstColon(name) => on_const_colon(alloc, decls, name, token.tok),
+        At::ConstColon(name) => on_const_colon(alloc, decls, name, token.kind),
     }
 }
 
 fn on_id(decls: Seq<Decl>, token: Token) -> Result<State, StepEnd>
-    ensures { Steps (spec.on_id decls token.place token.tok) result }
+    ensures { Steps (spec.on_id decls token.place token.kind) result }
 {
-    let Token { place, tok } = token;
-    match tok {
-        Tok::Hex(bytes) => to(decls, At::IdEnd(Placed { place, bytes })),
+    let Token { place, kind } = token;
+    match kind {
+        TokenKind::Hex(bytes) => to(decls, At::IdEnd(Placed { place, bytes })),
         _other => bad(),
     }
 }
 
-fn on_id_end(decls: Seq<Decl>, id: Placed, tok: Tok) -> Result<State, StepEnd>
-    ensures { Steps (spec.on_id_end decls id tok) result }
+fn on_id_end(decls: Seq<Decl>, id: Placed, kind: TokenKind) -> Result<State, StepEnd>
+    ensures { Steps (spec.on_id_end decls id kind) result }
 {
-    match tok {
-        Tok::Semicolon => to(with(decls, Decl::Id(id))?, At::Decl),
+    match kind {
+        TokenKind::Semicolon => to(with(decls, Decl::Id(id))?, At::Decl),
         _other => bad(),
     }
 }
 
 fn on_using_name(decls: Seq<Decl>, token: Token) -> Result<State, StepEnd>
-    ensures { Steps (spec.on_using_name decls token.place token.tok) result }
+    ensures { Steps (spec.on_using_name decls token.place token.kind) result }
 {
-    let Token { place, tok } = token;
-    match tok {
-        Tok::Name(bytes) => to(decls, At::UsingEquals(Placed { place, bytes })),
+    let Token { place, kind } = token;
+    match kind {
+        TokenKind::Name(bytes) => to(decls, At::UsingEquals(Placed { place, bytes })),
         _other => bad(),
     }
 }
 
-fn on_using_equals(decls: Seq<Decl>, name: Placed, tok: Tok) -> Result<State, StepEnd>
-    ensures { Steps (spec.on_using_equals decls name tok) result }
+fn on_using_equals(decls: Seq<Decl>, name: Placed, kind: TokenKind) -> Result<State, StepEnd>
+    ensures { Steps (spec.on_using_equals decls name kind) result }
 {
-    match tok {
-        Tok::Equals => to(decls, At::UsingImport(name)),
+    match kind {
+        TokenKind::Equals => to(decls, At::UsingImport(name)),
         _other => bad(),
     }
 }
 
-fn on_using_import(decls: Seq<Decl>, name: Placed, tok: Tok) -> Result<State, StepEnd>
-    ensures { Steps (spec.on_using_import decls name tok) result }
+fn on_using_import(decls: Seq<Decl>, name: Placed, kind: TokenKind) -> Result<State, StepEnd>
+    ensures { Steps (spec.on_using_import decls name kind) result }
 {
-    match tok {
-        Tok::Name(word) => {
+    match kind {
+        TokenKind::Name(word) => {
             if is_word(&word, b"import") {
                 to(decls, At::UsingPath(name))
             } else {
@@ -434,41 +444,51 @@ fn on_using_import(decls: Seq<Decl>, name: Placed, tok: Tok) -> Result<State, St
 }
 
 fn on_using_path(decls: Seq<Decl>, name: Placed, token: Token) -> Result<State, StepEnd>
-    ensures { Steps (spec.on_using_path decls name token.place token.tok) result }
+    ensures { Steps (spec.on_using_path decls name token.place token.kind) result }
 {
-    let Token { place, tok } = token;
-    match tok {
-        Tok::Text(bytes) => to(decls, At::UsingEnd(name, Placed { place, bytes })),
+    let Token { place, kind } = token;
+    match kind {
+        TokenKind::Text(bytes) => to(decls, At::UsingEnd(name, Placed { place, bytes })),
         _other => bad(),
     }
 }
 
-fn on_using_end(decls: Seq<Decl>, name: Placed, path: Placed, tok: Tok) -> Result<State, StepEnd>
-    ensures { Steps (spec.on_using_end decls name path tok) result }
+fn on_using_end(
+    decls: Seq<Decl>,
+    name: Placed,
+    path: Placed,
+    kind: TokenKind,
+) -> Result<State, StepEnd>
+    ensures { Steps (spec.on_using_end decls name path kind) result }
 {
-    match tok {
-        Tok::Semicolon => to(with(decls, Decl::Using { name, path })?, At::Decl),
+    match kind {
+        TokenKind::Semicolon => to(with(decls, Decl::Using { name, path })?, At::Decl),
         _other => bad(),
     }
 }
 
 fn on_const_name(decls: Seq<Decl>, token: Token) -> Result<State, StepEnd>
-    ensures { Steps (spec.on_const_name decls token.place token.tok) result }
+    ensures { Steps (spec.on_const_name decls token.place token.kind) result }
 {
-    let Token { place, tok } = token;
-    match tok {
-        Tok::Name(bytes) => to(decls, At::ConstColon(Placed { place, bytes })),
+    let Token { place, kind } = token;
+    match kind {
+        TokenKind::Name(bytes) => to(decls, At::ConstColon(Placed { place, bytes })),
         _other => bad(),
     }
 }
 
-fn on_const_colon(alloc: Global, decls: Seq<Decl>, name: Placed, tok: Tok) -> Result<State, StepEnd>
-    ensures { Steps (spec.on_const_colon decls name tok) result }
+fn on_const_colon(
+    alloc: Global,
+    decls: Seq<Decl>,
+    name: Placed,
+    kind: TokenKind,
+) -> Result<State, StepEnd>
+    ensures { Steps (spec.on_const_colon decls name kind) result }
 {
-    match tok {
-        Tok::Colon => {
-            let ty = Seq::new(alloc);
-            to(decls, At::Type(Head { name, ty }))
+    match kind {
+        TokenKind::Colon => {
+            let type_ = Seq::new(alloc);
+            to(decls, At::Type(Head { name, type_ }))
         }
         _other => bad(),
     }

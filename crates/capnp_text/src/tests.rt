@@ -196,7 +196,7 @@ fn places(decl: &Decl) -> (usize, usize, usize) {
     match decl {
         Decl::Using { name, path } => (name.place, path.place, 0),
         Decl::Id(digits) => (digits.place, 0, 0),
-        Decl::Const { name, ty, value } => match ty.get(1) {
+        Decl::Const { name, type_, value } => match type_.get(1) {
             Some(part) => (name.place, part.place, told(value).1),
             None => (name.place, 0, told(value).1),
         },

@@ -2,7 +2,7 @@ use wd_base::Bytes;
 
 /// What a token is.
 #[derive(Debug, Drop)]
-pub enum Tok {
+pub enum TokenKind {
     Name(Bytes),
     /// decimal digits
     Number(Bytes),
@@ -28,5 +28,5 @@ pub enum Tok {
 #[derive(Debug, Drop)]
 pub struct Token {
     pub place: usize,
-    pub tok: Tok,
+    pub kind: TokenKind,
 }

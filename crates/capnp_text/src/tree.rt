@@ -50,7 +50,7 @@ pub enum Decl {
     /// `const name :Type = value;`: the type's names between its points
     Const {
         name: Placed,
-        ty: Seq<Placed>,
+        type_: Seq<Placed>,
         value: Value,
     },
 }
