@@ -40,7 +40,7 @@ word p b = record { place = p; bytes = b }
 abbrev pub field : Placed → Value → Field
 field n v = roll-Field (record { name = n; value = v })
 
--- the place of `embed`
+-- the word `embed`, at a place
 abbrev pub embed : ℕ → Placed
 embed p = word p (codes "embed")
 
