@@ -10,11 +10,11 @@ use Rattle.capnp_text.specs.declared.scan.Scan.{Scan}
 use Rattle.capnp_text.specs.declared.scan.Stop.{Stop}
 use Rattle.capnp_text.specs.declared.scan.Stop.TheVariants as stop
 use Rattle.capnp_text.specs.declared.scan.Tokens.{Tokens}
-use Rattle.capnp_text.specs.Chars.{is_blank, is_digit, is_letter, is_inner, is_hex, is_escape, sign}
-use Rattle.capnp_text.specs.Lexed.{IsCut, FirstBad, StopsSo, HasTokens}
+use Rattle.capnp_text.specs.Chars.{byte_of, is_blank, is_digit, is_letter, is_inner, is_hex, is_escape, sign}
+use Rattle.capnp_text.specs.Lexed.{IsCut, IsLexed, FirstBad, StopsSo, HasTokens}
 use Rattle.capnp_text.specs.Run.{Stuck, taken, run}
 use Rattle.capnp_text.specs.Scan.{Scanned, refused, with_token, signed, gap, behind, in_number, step_at, whole, Reading, on, next, begin, told, scanned}
-use Rattle.capnp_text.proofs.LexComplete.{told_so, cut_complete}
+use Rattle.capnp_text.proofs.LexComplete.{reading, told_so, cut_complete}
 use Rattle.capnp_text.proofs.LexSound.{out, left, cut_sound}
 use Rattle.capnp_text.proofs.Runs.{StopsAt, stops_at, run_stuck, run_append, run_step}
 
@@ -120,10 +120,10 @@ cut_told bs ts open_ (Err k) e c =
     let same : k.why ≡ told_so ts open_ (length bs) = ap told (sym e) ∙ cut_complete bs ts open_ c in
     absurd (no_bad open_ (sym (ap (λ (t : Tokens). t.stop) (unread bs k e).why) ∙ ap (λ (t : Tokens). t.stop) same))
 
-no_cut : (before : List ℕ) (b : ℕ) (r : Reading) (k : Tokens) → run next begin before ≡ Ok r → next r b ≡ Err k → (us : List Token) (open_ : Bool) → IsCut (before ++ b ∷ []) us open_ → ⊥
-no_cut before b r k h e us open_ c =
-    let stuck : run next begin (before ++ b ∷ []) ≡ Err (record { why = k; item = b; rest = [] }) = run_append next before (b ∷ []) begin r h ∙ run_stuck next r b [] k e in
-    let t : (s : Reading) × (run next begin (before ++ b ∷ []) ≡ Ok s) × (out s ≡ us) = cut_told (before ++ b ∷ []) us open_ (run next begin (before ++ b ∷ [])) refl c in
+no_text : (before : List ℕ) (b : ℕ) (r : Reading) (k : Tokens) → run next begin before ≡ Ok r → next r b ≡ Err k → (more : List ℕ) (us : List Token) → IsLexed (before ++ b ∷ more) us → ⊥
+no_text before b r k h e more us c =
+    let stuck : run next begin (before ++ b ∷ more) ≡ Err (record { why = k; item = b; rest = more }) = run_append next before (b ∷ more) begin r h ∙ run_stuck next r b more k e in
+    let t : (s : Reading) × (run next begin (before ++ b ∷ more) ≡ Ok s) × (out s ≡ us) = cut_told (before ++ b ∷ more) us false (run next begin (before ++ b ∷ more)) refl c in
     let both = t.1 in cc
 
 first_bad : (bs : List ℕ) (k : Stuck ℕ Tokens) → Unread bs k → FirstBad bs k.why.tokens k.why.place
@@ -137,7 +137,7 @@ first_bad bs k u =
       at = ap (λ (t : Tokens). t.place) u.why ∙ e ∙ omega arith;
       open_ = left u.reached;
       cut = subst (λ (z : List Token). IsCut u.before z (left u.reached)) (sym (ap (λ (t : Tokens). t.tokens) u.why)) (cut_sound u.before u.reached u.ran);
-      refused = no_cut u.before k.item u.reached k.why u.ran u.bad;
+      refused = no_text u.before k.item u.reached k.why u.ran u.bad;
     }
 
 has_told : (bs : List ℕ) (read : Result Reading (Stuck ℕ Tokens)) → run next begin bs ≡ read → HasTokens bs (told read)
@@ -154,11 +154,36 @@ has_tokens bs = has_told bs (run next begin bs) refl
 
 -- ---- and no others
 
-bad_step : (before : List ℕ) (b : ℕ) (r : Reading) (made : Result Reading Tokens) → run next begin before ≡ Ok r → next r b ≡ made → ((us : List Token) (open_ : Bool) → IsCut (before ++ b ∷ []) us open_ → ⊥) → (k : Tokens) × (made ≡ Err k)
+-- each state has an end at which no token is open
+record Closes (r : Reading) : Type 0 where
+  more : List ℕ
+  reached : Reading
+  ran : run next r more ≡ Ok reached
+  closed : left reached ≡ false
+
+closes : (p : ℕ) (ts : List Token) (x : Open) → Closes (reading p ts x)
+closes p ts o.Gap = record { more = []; reached = reading p ts o.Gap; ran = refl; closed = refl }
+closes p ts o.Comment = record { more = []; reached = reading p ts o.Comment; ran = refl; closed = refl }
+closes p ts (o.Name q w) = record { more = []; reached = reading p ts (o.Name q w); ran = refl; closed = refl }
+closes p ts (o.Zero q) = record { more = []; reached = reading p ts (o.Zero q); ran = refl; closed = refl }
+closes p ts (o.Number q w) = record { more = []; reached = reading p ts (o.Number q w); ran = refl; closed = refl }
+closes p ts (o.HexMark q) = record { more = 48 ∷ []; reached = reading (p + 1) ts (o.Hex q (48 ∷ [])); ran = refl; closed = refl }
+closes p ts (o.Hex q w) = record { more = []; reached = reading p ts (o.Hex q w); ran = refl; closed = refl }
+closes p ts (o.Text q w) = record { more = 34 ∷ []; reached = reading (p + 1) (with_token ts q (tok.Text w)) o.Gap; ran = refl; closed = refl }
+closes p ts (o.Escape q w) = record { more = 110 ∷ 34 ∷ []; reached = reading (p + 1 + 1) (with_token ts q (tok.Text (w ++ 10 ∷ []))) o.Gap; ran = refl; closed = refl }
+closes p ts (o.EscapeHex q w) = record { more = 48 ∷ 48 ∷ 34 ∷ []; reached = reading (p + 1 + 1 + 1) (with_token ts q (tok.Text (w ++ byte_of 48 48 ∷ []))) o.Gap; ran = refl; closed = refl }
+closes p ts (o.EscapeLow q w h) = record { more = 48 ∷ 34 ∷ []; reached = reading (p + 1 + 1) (with_token ts q (tok.Text (w ++ byte_of h 48 ∷ []))) o.Gap; ran = refl; closed = refl }
+closes p ts (o.DataBegin q) = record { more = 34 ∷ []; reached = reading (p + 1) (with_token ts q (tok.Data [])) o.Gap; ran = refl; closed = refl }
+closes p ts (o.DataLow q w h) = record { more = 48 ∷ 34 ∷ []; reached = reading (p + 1 + 1) (with_token ts q (tok.Data (w ++ byte_of h 48 ∷ []))) o.Gap; ran = refl; closed = refl }
+closes p ts (o.DataPair q w) = record { more = 34 ∷ []; reached = reading (p + 1) (with_token ts q (tok.Data w)) o.Gap; ran = refl; closed = refl }
+closes p ts (o.DataSpace q w) = record { more = 48 ∷ 48 ∷ 34 ∷ []; reached = reading (p + 1 + 1 + 1) (with_token ts q (tok.Data (w ++ byte_of 48 48 ∷ []))) o.Gap; ran = refl; closed = refl }
+
+bad_step : (before : List ℕ) (b : ℕ) (r : Reading) (made : Result Reading Tokens) → run next begin before ≡ Ok r → next r b ≡ made → ((more : List ℕ) (us : List Token) → IsLexed (before ++ b ∷ more) us → ⊥) → (k : Tokens) × (made ≡ Err k)
 bad_step before b r (Err k) h e f = (k, refl)
 bad_step before b r (Ok n) h e f =
-    let ran : run next begin (before ++ b ∷ []) ≡ Ok n = run_append next before (b ∷ []) begin r h ∙ run_step next r n b [] e in
-    absurd (f (out n) (left n) (cut_sound (before ++ b ∷ []) n ran))
+    let c : Closes n = closes n.place n.scan.tokens n.scan.begun in
+    let ran : run next begin (before ++ b ∷ c.more) ≡ Ok c.reached = run_append next before (b ∷ c.more) begin r h ∙ run_step next r n b c.more e ∙ c.ran in
+    absurd (f c.more (out c.reached) (subst (IsCut (before ++ b ∷ c.more) (out c.reached)) c.closed (cut_sound (before ++ b ∷ c.more) c.reached ran)))
 
 bad_only : (bs : List ℕ) (ts : List Token) (n : ℕ) → FirstBad bs ts n → record { tokens = ts; stop = stop.BadByte; place = n } ≡ scanned bs
 bad_only bs ts n f =

@@ -180,7 +180,7 @@ is_open Nothing = false
 is_open (OpenComment c) = false
 is_open _ = true
 
--- The bytes are these tokens, with blanks and comments; `open` where one more token has begun at their end.
+-- The bytes are these tokens, with blanks and comments; `open_` tells whether one more token has begun at their end.
 pub record IsCut (bs : List ℕ) (ts : List Token) (open_ : Bool) : Type 0 where
   pub pieces : List Piece
   pub tail : Tail
@@ -194,7 +194,7 @@ pub record IsCut (bs : List ℕ) (ts : List Token) (open_ : Bool) : Type 0 where
 abbrev pub IsLexed : List ℕ → List Token → Type 0
 IsLexed bs ts = IsCut bs ts false
 
--- The first byte that begins and continues no token.
+-- The first byte that begins and continues no token: no text of tokens has it behind the bytes before it.
 pub record FirstBad (bs : List ℕ) (ts : List Token) (place : ℕ) : Type 0 where
   pub before : List ℕ
   pub byte : ℕ
@@ -203,7 +203,7 @@ pub record FirstBad (bs : List ℕ) (ts : List Token) (place : ℕ) : Type 0 whe
   pub at : place ≡ length before
   pub open_ : Bool
   pub cut : IsCut before ts open_
-  pub refused : (us : List Token) (o : Bool) → IsCut (before ++ byte ∷ []) us o → ⊥
+  pub refused : (more : List ℕ) (us : List Token) → IsLexed (before ++ byte ∷ more) us → ⊥
 
 abbrev pub StopsSo : List ℕ → List Token → ℕ → Stop → Type 0
 StopsSo bs ts n stop.End = IsLexed bs ts × (n ≡ length bs)
