@@ -1,0 +1,16 @@
+pub mod Back
+pub mod Tokens
+pub mod Runs
+pub mod CharLemmas
+pub mod LexComplete
+pub mod LexSound
+pub mod LexLaws
+pub mod MarkLemmas
+pub mod Equations
+pub mod Sound
+pub mod Bounds
+pub mod Complete
+pub mod First
+pub mod Wider
+pub mod Ends
+pub mod Judged
