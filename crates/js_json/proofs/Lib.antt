@@ -1,2 +1,5 @@
 pub mod Back
 pub mod Products
+pub mod Decimals
+pub mod Names
+pub mod Tokens
