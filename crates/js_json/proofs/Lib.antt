@@ -3,3 +3,4 @@ pub mod Products
 pub mod Decimals
 pub mod Names
 pub mod Tokens
+pub mod Sound

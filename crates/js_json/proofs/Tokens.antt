@@ -156,11 +156,16 @@ abbrev pub IsToken : Bool → List ℕ → Type 0
 IsToken true w = IsKey w
 IsToken false w = IsScalar w
 
+-- only a number ends before the unit behind it
+abbrev pub Ends : Bool → List ℕ → Type 0
+Ends true w = ⊥
+Ends false w = IsScalar w
+
 -- what a unit makes of it
 abbrev pub GoesOn : Bool → List ℕ → ℕ → Taken → Type 0
 GoesOn key w u (taken.More p) = Spelled p (w ++ u ∷ []) × (is_key p ≡ key)
 GoesOn key w u taken.Closed = IsToken key (w ++ u ∷ [])
-GoesOn key w u taken.Ended = IsToken key w
+GoesOn key w u taken.Ended = Ends key w
 GoesOn key w u taken.Bad = Unit {0}
 
 -- ---- words
