@@ -4,3 +4,4 @@ pub mod Decimals
 pub mod Names
 pub mod Tokens
 pub mod Sound
+pub mod Runs
