@@ -131,10 +131,10 @@ abbrev pub NoMore : List ℕ → Type 0
 NoMore [] = Unit {0}
 NoMore (u ∷ us) = (is_digit u ≡ false) × ((u == 46) ≡ false) × (is_mark u ≡ false)
 
-abbrev in_number_at : List Level → NumberAt → State
+abbrev pub in_number_at : List Level → NumberAt → State
 in_number_at ls n = at ls (spot.In (part.Number n))
 
-more_number : (ls : List Level) (n m : NumberAt) (u : ℕ) (us : List ℕ) → in_number n u ≡ number_at m → accepts (in_number_at ls n) (u ∷ us) ≡ accepts (in_number_at ls m) us
+pub more_number : (ls : List Level) (n m : NumberAt) (u : ℕ) (us : List ℕ) → in_number n u ≡ number_at m → accepts (in_number_at ls n) (u ∷ us) ≡ accepts (in_number_at ls m) us
 more_number ls n m u us e = more ls (part.Number n) (part.Number m) u us e
 
 fraction_ended : (n : Digits) (places u : ℕ) → is_mark u ≡ false → is_safe n 0 places ≡ true → behind_fraction n places u ≡ taken.Ended
@@ -157,49 +157,49 @@ end_stops : (ls : List Level) (n : NumberAt) → is_whole n ≡ true → stops_a
 end_stops [] n s = s
 end_stops (l ∷ ls) n s = refl
 
-number_end : (ls : List Level) (n : NumberAt) (rest : List ℕ) → NoMore rest → is_whole n ≡ true → accepts (in_number_at ls n) rest ≡ accepts (at ls spot.Done) rest
+pub number_end : (ls : List Level) (n : NumberAt) (rest : List ℕ) → NoMore rest → is_whole n ≡ true → accepts (in_number_at ls n) rest ≡ accepts (at ls spot.Done) rest
 number_end ls n [] m s = end_stops ls n s
 number_end ls n (u ∷ us) m s = ends ls (part.Number n) u us (number_ended n u m.0 m.1 m.2 s)
 
-abbrev pushes : Digits → List ℕ → Digits
+abbrev pub pushes : Digits → List ℕ → Digits
 pushes n [] = n
 pushes n (d ∷ ds) = pushes (push n d) ds
 
-abbrev counted : ℕ → List ℕ → ℕ
+abbrev pub counted : ℕ → List ℕ → ℕ
 counted k [] = k
 counted k (d ∷ ds) = counted (min (k + 1) most) ds
 
-abbrev raises : ℕ → List ℕ → ℕ
+abbrev pub raises : ℕ → List ℕ → ℕ
 raises e [] = e
 raises e (d ∷ ds) = raises (raised e d) ds
 
-whole_run : (ls : List Level) (ds : List ℕ) (n : Digits) (rest : List ℕ) → Every (Passes is_digit) ds → accepts (in_number_at ls (number.Whole n)) (ds ++ rest) ≡ accepts (in_number_at ls (number.Whole (pushes n ds))) rest
+pub whole_run : (ls : List Level) (ds : List ℕ) (n : Digits) (rest : List ℕ) → Every (Passes is_digit) ds → accepts (in_number_at ls (number.Whole n)) (ds ++ rest) ≡ accepts (in_number_at ls (number.Whole (pushes n ds))) rest
 whole_run ls [] n rest h = refl
 whole_run ls (d ∷ ds) n rest h = more_number ls (number.Whole n) (number.Whole (push n d)) d (ds ++ rest) (cond-true (is_digit d) _ _ h.0) ∙ whole_run ls ds (push n d) rest h.1
 
-fraction_run : (ls : List Level) (ds : List ℕ) (n : Digits) (k : ℕ) (rest : List ℕ) → Every (Passes is_digit) ds → accepts (in_number_at ls (number.Fraction n k)) (ds ++ rest) ≡ accepts (in_number_at ls (number.Fraction (pushes n ds) (counted k ds))) rest
+pub fraction_run : (ls : List Level) (ds : List ℕ) (n : Digits) (k : ℕ) (rest : List ℕ) → Every (Passes is_digit) ds → accepts (in_number_at ls (number.Fraction n k)) (ds ++ rest) ≡ accepts (in_number_at ls (number.Fraction (pushes n ds) (counted k ds))) rest
 fraction_run ls [] n k rest h = refl
 fraction_run ls (d ∷ ds) n k rest h = more_number ls (number.Fraction n k) (number.Fraction (push n d) (min (k + 1) most)) d (ds ++ rest) (cond-true (is_digit d) _ _ h.0) ∙ fraction_run ls ds (push n d) (min (k + 1) most) rest h.1
 
-exponent_run : (ls : List Level) (ds : List ℕ) (n : Digits) (k : ℕ) (b : Bool) (e : ℕ) (rest : List ℕ) → Every (Passes is_digit) ds → accepts (in_number_at ls (number.Exponent n k b e)) (ds ++ rest) ≡ accepts (in_number_at ls (number.Exponent n k b (raises e ds))) rest
+pub exponent_run : (ls : List Level) (ds : List ℕ) (n : Digits) (k : ℕ) (b : Bool) (e : ℕ) (rest : List ℕ) → Every (Passes is_digit) ds → accepts (in_number_at ls (number.Exponent n k b e)) (ds ++ rest) ≡ accepts (in_number_at ls (number.Exponent n k b (raises e ds))) rest
 exponent_run ls [] n k b e rest h = refl
 exponent_run ls (d ∷ ds) n k b e rest h = more_number ls (number.Exponent n k b e) (number.Exponent n k b (raised e d)) d (ds ++ rest) (cond-true (is_digit d) _ _ h.0) ∙ exponent_run ls ds n k b (raised e d) rest h.1
 
-held_pushes : (es ds : List ℕ) (n : Digits) → Every (Passes is_digit) es → length ds + length es < most → Held ds n → Held (ds ++ es) (pushes n es)
+pub held_pushes : (es ds : List ℕ) (n : Digits) → Every (Passes is_digit) es → length ds + length es < most → Held ds n → Held (ds ++ es) (pushes n es)
 held_pushes [] ds n h l k = subst (λ (z : List ℕ). Held z n) (sym (append-nil ds)) k
 held_pushes (e ∷ es) ds n h l k =
     let len = length-append ds (e ∷ []) in
     subst (λ (z : List ℕ). Held z (pushes (push n e) es)) (append_assoc ds (e ∷ []) es) (held_pushes es (ds ++ e ∷ []) (push n e) h.1 (omega (arith, l, len)) (held_push ds e n h.0 (omega (arith, l)) k))
 
-counted_exact : (ds : List ℕ) (k : ℕ) → k + length ds ≤ most → counted k ds ≡ k + length ds
+pub counted_exact : (ds : List ℕ) (k : ℕ) → k + length ds ≤ most → counted k ds ≡ k + length ds
 counted_exact [] k l = omega arith
 counted_exact (d ∷ ds) k l =
     ap (λ (x : ℕ). counted x ds) (min-eq_left (omega (arith, l))) ∙ counted_exact ds (k + 1) (omega (arith, l)) ∙ omega arith
 
-raises_exact : (ds : List ℕ) (t : ℕ) → raises (min t most) ds ≡ min (decimal_from t ds) most
+pub raises_exact : (ds : List ℕ) (t : ℕ) → raises (min t most) ds ≡ min (decimal_from t ds) most
 raises_exact [] t = refl
 raises_exact (d ∷ ds) t = ap (λ (x : ℕ). raises x ds) (raised_exact t d) ∙ raises_exact ds (10 * t + (d - 48))
 
-with_told : (ds : List ℕ) (n : Digits) (places t : ℕ) (b : Bool) → Held ds n → SafeAt (decimal ds) (cond b 0 t) (places + cond b t 0) → is_safe_with n places b t ≡ true
+pub with_told : (ds : List ℕ) (n : Digits) (places t : ℕ) (b : Bool) → Held ds n → SafeAt (decimal ds) (cond b 0 t) (places + cond b t 0) → is_safe_with n places b t ≡ true
 with_told ds n places t true h e = safe_told ds n 0 (places + t) h e
 with_told ds n places t false h e = safe_told ds n t places h (subst (λ (x : ℕ). SafeAt (decimal ds) t x) (omega arith) e)

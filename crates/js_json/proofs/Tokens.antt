@@ -257,7 +257,7 @@ with_found : (ds : List ℕ) (n : Digits) (places t : ℕ) (b : Bool) → Held d
 with_found ds n places t true h e = safe_found ds n 0 (places + t) h e
 with_found ds n places t false h e = subst (λ (x : ℕ). SafeAt (decimal ds) t x) (omega arith) (safe_found ds n t places h e)
 
-fraction_length : (ds : List ℕ) → length ds ≤ length (fraction_units ds)
+pub fraction_length : (ds : List ℕ) → length ds ≤ length (fraction_units ds)
 fraction_length [] = omega arith
 fraction_length (d ∷ ds) = omega arith
 
