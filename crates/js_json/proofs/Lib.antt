@@ -6,3 +6,4 @@ pub mod Tokens
 pub mod Sound
 pub mod Runs
 pub mod Numbers
+pub mod Complete
