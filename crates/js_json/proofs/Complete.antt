@@ -1,7 +1,7 @@
 -- What is in the grammar is accepted.
-use Rattle.std.proofs.Common.{◌≡◌, ℕ, zero, suc, ◌+◌, ◌-◌, ◌^◌, ◌≤◌, ◌<◌, Bool, true, false, cond, List, [], ◌∷◌, ◌++◌, ◌⊎◌, inl, inr, length, Option, Some, None, refl, sym, ◌∙◌, ap, subst, append_assoc, arith}
+use Rattle.std.proofs.Common.{◌≡◌, ℕ, zero, suc, ◌+◌, ◌^◌, ◌<◌, true, false, List, [], ◌∷◌, ◌++◌, inl, inr, length, refl, sym, ◌∙◌, ap, subst, append_assoc, arith}
 use Rattle.std.specs.Prelude.{◌==◌, ◌||◌, nat_lt}
-use Rattle.std.proofs.lemmas.Bool.{eqb-true, or_cases, or_from, cond-true, cond-false, lt-ltb}
+use Rattle.std.proofs.lemmas.Bool.{eqb-true, or_cases, cond-true, cond-false, lt-ltb}
 use Rattle.std.proofs.lemmas.List.{append-nil, length-append}
 use Rattle.js_json.specs.declared.levels.Level.{Level}
 use Rattle.js_json.specs.declared.levels.Level.TheVariants as level
@@ -10,7 +10,7 @@ use Rattle.js_json.specs.declared.machine.Spot.TheVariants as spot
 use Rattle.js_json.specs.declared.machine.Inner.TheVariants as inner
 use Rattle.js_json.specs.declared.machine.Part.TheVariants as part
 use Rattle.js_json.specs.Units.{is_blank, is_digit, is_mark}
-use Rattle.js_json.specs.Lists.{Every, Passes, Then, Many, Either, One, joined}
+use Rattle.js_json.specs.Lists.{Every, Then, Many, Either, One, joined}
 use Rattle.js_json.specs.Grammar.{Blanks, IsKey, IsScalar, Parted, Between, Item, Member, IsArray, IsObject, IsValue, IsJson}
 use Rattle.js_json.specs.Machine.{stay, begin, step_at, accepts, start}
 use Rattle.js_json.proofs.Runs.{at, move, Opens, begins, NoMore, word_run, text_run, key_run}
@@ -44,8 +44,8 @@ done_blank ls u h = cond-true (is_blank u) _ _ h
 
 blank_case : (P : ℕ → Type 0) → P 32 → P 9 → P 10 → P 13 → (u : ℕ) → is_blank u ≡ true → P u
 blank_case P a b c d u h = elim (or_cases (u == 32 || u == 9) (u == 10 || u == 13) h) [
-  | inl l ↦ elim (or_cases (u == 32) (u == 9) l) [ | inl e ↦ subst P (sym (eqb-true u 32 e)) a | inr e ↦ subst P (sym (eqb-true u 9 e)) b ]
-  | inr r ↦ elim (or_cases (u == 10) (u == 13) r) [ | inl e ↦ subst P (sym (eqb-true u 10 e)) c | inr e ↦ subst P (sym (eqb-true u 13 e)) d ]
+  | inl l ↦ elim (or_cases (u == 32) (u == 9) l) [ inl e ↦ subst P (sym (eqb-true u 32 e)) a | inr e ↦ subst P (sym (eqb-true u 9 e)) b ]
+  | inr r ↦ elim (or_cases (u == 10) (u == 13) r) [ inl e ↦ subst P (sym (eqb-true u 10 e)) c | inr e ↦ subst P (sym (eqb-true u 13 e)) d ]
 ]
 
 abbrev Stops : ℕ → Type 0
@@ -169,7 +169,7 @@ array_run V ls s w rest f o h t m =
     let A = level.Array ∷ ls in
     between_run (Either Blanks (Parted (Item V))) level.Array ls s spot.FirstItem 91 93 w rest o refl refl (cond-true (nat_lt (length ls) 64) _ _ (lt-ltb (length ls) 64 h))
     (λ us e l. inside_run (Item V) level.Array ls spot.FirstItem spot.Begin 93 us rest (item_opens A).blank refl refl refl (refl, refl, refl)
-      (λ vs tail i k r. item_run V A spot.FirstItem vs tail f (item_opens A) i k r) (λ vs tail i k r. item_run V A spot.Begin vs tail f (begin_opens A) i k r) e l)
+    (λ vs tail i k r. item_run V A spot.FirstItem vs tail f (item_opens A) i k r) (λ vs tail i k r. item_run V A spot.Begin vs tail f (begin_opens A) i k r) e l)
     t m
 
 object_run : (V : List ℕ → Type 0) (ls : List Level) (s : Spot) (w rest : List ℕ) → Runs V (level.Object ∷ ls) → Opens ls s → length ls < 64 → IsObject V w → Small w → Leads ls s ls w rest
@@ -177,7 +177,7 @@ object_run V ls s w rest f o h t m =
     let O = level.Object ∷ ls in
     between_run (Either Blanks (Parted (Member V))) level.Object ls s spot.FirstKey 123 125 w rest o refl refl (cond-true (nat_lt (length ls) 64) _ _ (lt-ltb (length ls) 64 h))
     (λ us e l. inside_run (Member V) level.Object ls spot.FirstKey spot.NextKey 125 us rest (first_key O).blank refl refl refl (refl, refl, refl)
-      (λ vs tail i k r. member_run V O spot.FirstKey vs tail f (first_key O) i k r) (λ vs tail i k r. member_run V O spot.NextKey vs tail f (next_key O) i k r) e l)
+    (λ vs tail i k r. member_run V O spot.FirstKey vs tail f (first_key O) i k r) (λ vs tail i k r. member_run V O spot.NextKey vs tail f (next_key O) i k r) e l)
     t m
 
 -- A value is accepted within as many levels as leave room for its own.

@@ -1,14 +1,13 @@
 -- The number that digits spell, and what is kept of it.
-use Rattle.std.proofs.Common.{◌≡◌, ℕ, zero, suc, ◌+◌, ◌-◌, ◌*◌, ◌^◌, ◌≤◌, ◌<◌, Bool, true, false, cond, List, [], ◌∷◌, ◌++◌, ◌⊎◌, inl, inr, length, refl, sym, ◌∙◌, ap, subst, arith}
+use Rattle.std.proofs.Common.{◌≡◌, ℕ, zero, suc, ◌+◌, ◌-◌, ◌*◌, ◌^◌, ◌≤◌, ◌<◌, Bool, true, false, cond, List, [], ◌∷◌, ◌++◌, inl, inr, length, refl, sym, ◌∙◌, ap, subst, arith}
 use Rattle.std.specs.Prelude.{min, ◌==◌, nat_lt, nat_le, ◌&&◌}
 use Rattle.std.proofs.Math.Nat.{pow-suc, one-le-pow, pow-le-pow_right, min-eq_left, min-eq_right, eq_of_mul-eq-mul_right, mul_assoc}
 use Rattle.std.proofs.lemmas.Nat.{pow-add, mul-le}
-use Rattle.std.proofs.lemmas.Bool.{leb-true, leb-false, ltb-true, ltb-false, le-leb, lt-leb, lt-ltb, le-ltb, eqb-true, eqb-false, cases_lt, and_parts, and_from, and_left}
+use Rattle.std.proofs.lemmas.Bool.{leb-true, leb-false, ltb-false, le-leb, lt-leb, lt-ltb, le-ltb, eqb-true, eqb-false, cases_lt, and_parts, and_from, and_left}
 use Rattle.std.proofs.lemmas.List.{length-append}
 use Rattle.js_json.specs.declared.machine.Digits.{Digits}
 use Rattle.js_json.specs.declared.machine.Digits.TheVariants as digits
 use Rattle.js_json.specs.Units.{is_digit}
-use Rattle.js_json.specs.Lists.{Every, Passes}
 use Rattle.js_json.specs.Number.{decimal_from, decimal}
 use Rattle.js_json.specs.Machine.{most_safe, most, fitted, grown, push, raised, fits, is_safe, is_safe_with}
 
@@ -93,11 +92,11 @@ held_zero ds u false t d e =
     let p = decimal_push ds 0 u in
     let low = digit_above u d in
     let high = digit_below u d in
-    let apart : 1 ≤ u - 48 = elim (cases_lt 48 u) [ | inl h ↦ omega (arith, h) | inr h ↦ absurd (eqb-false u 48 t (omega (arith, h, low))) ] in
+    let apart : 1 ≤ u - 48 = elim (cases_lt 48 u) [ inl h ↦ omega (arith, h) | inr h ↦ absurd (eqb-false u 48 t (omega (arith, h, low))) ] in
     exact_of (ds ++ u ∷ []) (u - 48) (omega (arith, p, e)) (sharp_low (u - 48) apart (omega (arith, high))) (omega (arith, high))
 
 one_up : (u : ℕ) → (u == 48) ≡ false → is_digit u ≡ true → 1 ≤ u - 48
-one_up u t d = let low = digit_above u d in elim (cases_lt 48 u) [ | inl h ↦ omega (arith, h) | inr h ↦ absurd (eqb-false u 48 t (omega (arith, h, low))) ]
+one_up u t d = let low = digit_above u d in elim (cases_lt 48 u) [ inl h ↦ omega (arith, h) | inr h ↦ absurd (eqb-false u 48 t (omega (arith, h, low))) ]
 
 sharp_more : (x c z v : ℕ) → x ≡ c * 10 ^ (z + 1) → x ≡ 10 * (c * 10 ^ z) → 1 ≤ v → v ≤ 9 → Sharp (c * 10 ^ (z + 1) + v)
 sharp_more x c z v e f h i = subst Sharp (ap (λ (n : ℕ). n + v) (sym f ∙ e)) (sharp_of (c * 10 ^ z) v h i)
@@ -197,7 +196,7 @@ fits_safe d c z up down e h =
 safe_fits : (d c z up down : ℕ) → d ≡ c * 10 ^ z → Sharp c → SafeAt d up down → fits c (z + up) down ≡ true
 safe_fits d c z up down e s w =
     let eq : w.0 * 10 ^ down ≡ c * 10 ^ (z + up) = w.2 ∙ regroup d c z up e in
-    let below : down ≤ z + up = elim (cases_lt (z + up) down) [ | inl h ↦ absurd (no_more w.0 c (z + up) down s eq h) | inr h ↦ h ] in
+    let below : down ≤ z + up = elim (cases_lt (z + up) down) [ inl h ↦ absurd (no_more w.0 c (z + up) down s eq h) | inr h ↦ h ] in
     let value : w.0 ≡ c * 10 ^ (z + up - down) = scaled w.0 c (z + up) down eq below in
     and_from _ _ (le-leb _ _ below) (and_from _ _ (lt-ltb _ _ (not_many c (z + up - down) w.0 (sharp_positive c s) value w.1)) (le-leb _ _ (subst (λ (x : ℕ). x ≤ most_safe) value w.1)))
 
@@ -206,7 +205,7 @@ wide_unsafe ds up down h w =
     let q = h.number in
     let a = h.zeros + up in
     let eq : w.0 * 10 ^ down ≡ q * 10 ^ a = w.2 ∙ regroup (decimal ds) q h.zeros up h.is in
-    let below : down ≤ a = elim (cases_lt a down) [ | inl i ↦ absurd (no_more w.0 q a down h.sharp eq i) | inr i ↦ i ] in
+    let below : down ≤ a = elim (cases_lt a down) [ inl i ↦ absurd (no_more w.0 q a down h.sharp eq i) | inr i ↦ i ] in
     let value : w.0 ≡ q * 10 ^ (a - down) = scaled w.0 q a down eq below in
     let one : q * 1 ≤ q * 10 ^ (a - down) = mul-le q 1 q (10 ^ (a - down)) (omega arith) (one-le-pow (a - down) 10 (omega arith)) in
     let low = w.1 in
@@ -249,9 +248,9 @@ inner_min x v = elim (cases_lt most x) [
 pub raised_exact : (t u : ℕ) → raised (min t most) u ≡ min (10 * t + (u - 48)) most
 raised_exact t u = elim (cases_lt most t) [
   | inl h ↦ (let a : min t most ≡ most = min-eq_right (omega (arith, h)) in
-    ap (λ (x : ℕ). min (min (x * 10) most + (u - 48)) most) a ∙ min-eq_right (omega arith) ∙ sym (min-eq_right (omega (arith, h))))
+      ap (λ (x : ℕ). min (min (x * 10) most + (u - 48)) most) a ∙ min-eq_right (omega arith) ∙ sym (min-eq_right (omega (arith, h))))
   | inr h ↦ (let a : min t most ≡ t = min-eq_left h in
-    ap (λ (x : ℕ). min (min (x * 10) most + (u - 48)) most) a ∙ inner_min (t * 10) (u - 48) ∙ ap (λ (x : ℕ). min x most) (omega arith))
+      ap (λ (x : ℕ). min (min (x * 10) most + (u - 48)) most) a ∙ inner_min (t * 10) (u - 48) ∙ ap (λ (x : ℕ). min x most) (omega arith))
 ]
 
 -- an exponent beyond the counter's end decides as that end does

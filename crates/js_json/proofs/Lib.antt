@@ -7,3 +7,4 @@ pub mod Sound
 pub mod Runs
 pub mod Numbers
 pub mod Complete
+pub mod Exact

@@ -1,7 +1,7 @@
 -- The front of a key's name decides whether it is refused.
-use Rattle.std.proofs.Common.{◌≡◌, ℕ, ◌+◌, ◌≤◌, ◌<◌, Bool, true, false, cond, List, [], ◌∷◌, ◌++◌, ◌⊎◌, inl, inr, length, take, refl, sym, ◌∙◌, ap, subst, arith}
+use Rattle.std.proofs.Common.{◌≡◌, ℕ, ◌≤◌, Bool, true, false, List, [], ◌∷◌, ◌++◌, inl, inr, length, take, refl, sym, ◌∙◌, ap, subst, arith}
 use Rattle.std.specs.Prelude.{nat_lt, nat_le, min}
-use Rattle.std.proofs.Math.Nat.{min-eq_left, min-eq_right}
+use Rattle.std.proofs.Math.Nat.{min-eq_left}
 use Rattle.std.proofs.lemmas.Bool.{leb-true, lt-ltb, le-ltb, cases_lt, false_from_ne_true, cond-true, cond-false}
 use Rattle.std.proofs.lemmas.List.{take_all, take-append-le, length-take, length-append}
 use Rattle.js_arena.specs.Names.{IsOneOf, IsRefusedName, refused_names, is_one_of}
@@ -20,9 +20,9 @@ clip_with v x =
     let more = length-append v (x ∷ []) in
     elim (cases_lt (length v) 21) [
       | inl h ↦ (let whole : clip v ≡ v = take_all 21 v (omega (arith, h)) in
-        ap (λ (z : List ℕ). name_with z x) whole ∙ cond-true (nat_lt (length v) 21) (v ++ x ∷ []) v (lt-ltb (length v) 21 h) ∙ sym (take_all 21 (v ++ x ∷ []) (omega (arith, more, h))))
+          ap (λ (z : List ℕ). name_with z x) whole ∙ cond-true (nat_lt (length v) 21) (v ++ x ∷ []) v (lt-ltb (length v) 21 h) ∙ sym (take_all 21 (v ++ x ∷ []) (omega (arith, more, h))))
       | inr h ↦ (let full : length (clip v) ≡ 21 = len ∙ min-eq_left h in
-        cond-false (nat_lt (length (clip v)) 21) (clip v ++ x ∷ []) (clip v) (le-ltb (length (clip v)) 21 (omega (arith, full))) ∙ sym (take-append-le 21 v (x ∷ []) h))
+          cond-false (nat_lt (length (clip v)) 21) (clip v ++ x ∷ []) (clip v) (le-ltb (length (clip v)) 21 (omega (arith, full))) ∙ sym (take-append-le 21 v (x ∷ []) h))
     ]
 
 abbrev Short : List ℕ → Type 0
@@ -52,10 +52,10 @@ allowed_found v h r =
 pub allowed_told : (v : List ℕ) → IsAllowed v → is_one_of (clip v) refused_names ≡ false
 allowed_told v f =
     false_from_ne_true (is_one_of (clip v) refused_names) (λ t.
-      let r : IsRefusedName (clip v) = one_of_found (clip v) refused_names t in
-      let short = refused_short (clip v) r in
-      let len = length-take 21 v in
-      elim (cases_lt (length v) 21) [
-        | inl h ↦ f (subst IsRefusedName (take_all 21 v (omega (arith, h))) r)
-        | inr h ↦ (let full : min 21 (length v) ≡ 21 = min-eq_left h in absurd (omega (arith, short, len, full)))
-      ])
+    let r : IsRefusedName (clip v) = one_of_found (clip v) refused_names t in
+    let short = refused_short (clip v) r in
+    let len = length-take 21 v in
+    elim (cases_lt (length v) 21) [
+      | inl h ↦ f (subst IsRefusedName (take_all 21 v (omega (arith, h))) r)
+      | inr h ↦ (let full : min 21 (length v) ≡ 21 = min-eq_left h in absurd (omega (arith, short, len, full)))
+    ])

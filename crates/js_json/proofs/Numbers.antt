@@ -1,5 +1,5 @@
 -- Safe numbers are accepted whole.
-use Rattle.std.proofs.Common.{◌≡◌, ℕ, zero, suc, ◌+◌, ◌-◌, ◌*◌, ◌^◌, ◌≤◌, ◌<◌, Bool, true, false, cond, List, [], ◌∷◌, ◌++◌, ◌⊎◌, inl, inr, length, Option, Some, None, refl, sym, ◌∙◌, ap, subst, append_assoc, arith}
+use Rattle.std.proofs.Common.{◌≡◌, ℕ, ◌+◌, ◌^◌, ◌<◌, Bool, true, false, cond, List, [], ◌∷◌, ◌++◌, inl, inr, length, refl, sym, ◌∙◌, ap, subst, append_assoc, arith}
 use Rattle.std.specs.Prelude.{◌==◌, min}
 use Rattle.std.proofs.lemmas.Bool.{eqb-true, or_cases, cond-true, cond-false}
 use Rattle.std.proofs.lemmas.List.{append-nil, length-append}
@@ -8,14 +8,13 @@ use Rattle.js_json.specs.declared.machine.Digits.{Digits}
 use Rattle.js_json.specs.declared.machine.Digits.TheVariants as digits
 use Rattle.js_json.specs.declared.machine.NumberAt.{NumberAt}
 use Rattle.js_json.specs.declared.machine.NumberAt.TheVariants as number
-use Rattle.js_json.specs.declared.machine.Part.{Part}
 use Rattle.js_json.specs.declared.machine.Part.TheVariants as part
 use Rattle.js_json.specs.declared.machine.Spot.{Spot}
 use Rattle.js_json.specs.declared.machine.Spot.TheVariants as spot
-use Rattle.js_json.specs.Units.{is_blank, is_digit, is_mark}
+use Rattle.js_json.specs.Units.{is_digit, is_mark}
 use Rattle.js_json.specs.Lists.{Every, Passes}
-use Rattle.js_json.specs.Number.{Sign, Bare, Plus, Minus, Number, IsWhole, IsNumber, IsSafe, IsSafeNumber, minus_units, fraction_units, sign_units, exponent_units, number_units, decimal, is_down}
-use Rattle.js_json.specs.Machine.{Step, stay, begin_part, begin, most, push, raised, is_safe, is_safe_with, is_whole, number_at, behind_fraction, behind_whole, in_number, first_part, accepts}
+use Rattle.js_json.specs.Number.{Sign, Bare, Plus, Minus, IsWhole, IsSafeNumber, minus_units, fraction_units, sign_units, exponent_units, decimal, is_down}
+use Rattle.js_json.specs.Machine.{stay, begin_part, begin, most, push, raised, is_safe, is_safe_with, is_whole, behind_fraction, behind_whole, in_number, accepts}
 use Rattle.js_json.proofs.Tokens.{fraction_length}
 use Rattle.js_json.proofs.Decimals.{Held, SafeAt, capped}
 use Rattle.js_json.proofs.Runs.{at, apart, no_blank, Opens, begins, NoMore, in_number_at, more_number, number_end, pushes, counted, raises, whole_run, fraction_run, exponent_run, held_pushes, counted_exact, raises_exact, with_told}
@@ -99,7 +98,7 @@ front_done ls s front whole (d ∷ ds) w h l =
       reached = number.Fraction n (counted 1 ds);
       kept = n;
       ran = λ rest. w.ran (46 ∷ d ∷ (ds ++ rest)) ∙ more_number ls w.reached (number.Point w.kept) 46 (d ∷ (ds ++ rest)) (w.behaves 46 refl)
-        ∙ more_number ls (number.Point w.kept) (number.Fraction (push w.kept d) 1) d (ds ++ rest) (cond-true (is_digit d) _ _ h.0) ∙ fraction_run ls ds (push w.kept d) 1 rest h.1;
+          ∙ more_number ls (number.Point w.kept) (number.Fraction (push w.kept d) 1) d (ds ++ rest) (cond-true (is_digit d) _ _ h.0) ∙ fraction_run ls ds (push w.kept d) 1 rest h.1;
       held = held_pushes (d ∷ ds) whole w.kept h (omega (arith, l)) w.held;
       behaves = λ u q p. cond-false (is_digit u) _ _ q ∙ ap (λ (x : ℕ). behind_fraction n x u) k;
       ends = ap (λ (x : ℕ). is_safe n 0 x) k;
@@ -108,7 +107,7 @@ front_done ls s front whole (d ∷ ds) w h l =
 -- ---- the exponent
 
 mark_no_digit : (u : ℕ) → is_mark u ≡ true → is_digit u ≡ false
-mark_no_digit u h = elim (or_cases (u == 101) (u == 69) h) [ | inl e ↦ ap is_digit (eqb-true u 101 e) | inr e ↦ ap is_digit (eqb-true u 69 e) ]
+mark_no_digit u h = elim (or_cases (u == 101) (u == 69) h) [ inl e ↦ ap is_digit (eqb-true u 101 e) | inr e ↦ ap is_digit (eqb-true u 69 e) ]
 
 mark_run : (ls : List Level) (s : Spot) (front whole fraction : List ℕ) (f : FrontDone ls s front whole fraction) (mark : ℕ) (rest : List ℕ) → is_mark mark ≡ true → accepts (in_number_at ls f.reached) (mark ∷ rest) ≡ accepts (in_number_at ls (number.Mark f.kept (length fraction))) rest
 mark_run ls s front whole fraction f mark rest h =

@@ -1,6 +1,6 @@
 -- Tokens are accepted whole.
-use Rattle.std.proofs.Common.{◌≡◌, ℕ, zero, suc, ◌+◌, ◌-◌, ◌*◌, ◌^◌, ◌≤◌, ◌<◌, Bool, true, false, cond, List, [], ◌∷◌, ◌++◌, ◌⊎◌, inl, inr, length, map, Option, Some, None, refl, sym, ◌∙◌, ap, subst, append_assoc, arith}
-use Rattle.std.specs.Prelude.{not, ◌||◌, ◌&&◌, ◌==◌, nat_lt, nat_le, min, flat_map, codes}
+use Rattle.std.proofs.Common.{◌≡◌, ℕ, ◌+◌, ◌-◌, ◌*◌, ◌≤◌, ◌<◌, Bool, true, false, cond, List, [], ◌∷◌, ◌++◌, inl, inr, length, map, refl, sym, ◌∙◌, ap, subst, append_assoc, arith}
+use Rattle.std.specs.Prelude.{◌||◌, ◌==◌, nat_lt, min, flat_map}
 use Rattle.std.proofs.Math.Nat.{min-eq_left}
 use Rattle.std.proofs.lemmas.Bool.{eqb-true, or_from, or_parts, not-true, cond-true, cond-false}
 use Rattle.std.proofs.lemmas.List.{append-nil, length-append}
@@ -22,10 +22,10 @@ use Rattle.js_json.specs.declared.machine.Spot.TheVariants as spot
 use Rattle.js_json.specs.declared.machine.State.{State}
 use Rattle.js_json.specs.Units.{is_blank, is_digit, is_hex, code_of, is_escape, escaped, is_mark}
 use Rattle.js_json.specs.Lists.{Every, Passes}
-use Rattle.js_json.specs.Number.{Sign, Bare, Plus, Minus, Number, IsWhole, IsNumber, IsSafe, IsSafeNumber, minus_units, fraction_units, sign_units, exponent_units, number_units, decimal, decimal_from, is_down}
-use Rattle.js_json.specs.Grammar.{Letter, Raw, Escape, Code, letter_units, letter_value, is_raw, IsLetter, IsTextOf, Anything, IsAllowed, IsText, IsKey, IsWord, IsScalar}
-use Rattle.js_json.specs.Machine.{Step, stay, begin, begin_key, name_with, closed, in_plain, in_escape, in_text, most, push, raised, is_safe, is_safe_with, is_whole, number_at, ended, behind_fraction, behind_whole, in_number, first_part, token, is_key, behind, on_taken, step_at, step, stops_at, went, accepts}
-use Rattle.js_json.proofs.Decimals.{Held, SafeAt, held_push, safe_told, raised_exact, capped}
+use Rattle.js_json.specs.Number.{decimal, decimal_from}
+use Rattle.js_json.specs.Grammar.{Letter, Raw, Escape, Code, letter_units, letter_value, is_raw, IsLetter, IsText, IsKey, IsWord}
+use Rattle.js_json.specs.Machine.{Step, stay, begin, name_with, closed, in_plain, most, push, raised, is_safe, is_safe_with, is_whole, number_at, behind_fraction, behind_whole, in_number, token, is_key, behind, on_taken, step_at, stops_at, went, accepts}
+use Rattle.js_json.proofs.Decimals.{Held, SafeAt, held_push, safe_told, raised_exact}
 use Rattle.js_json.proofs.Names.{clip, clip_with, allowed_told}
 
 abbrev pub at : List Level → Spot → State

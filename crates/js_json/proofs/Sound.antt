@@ -1,11 +1,10 @@
 -- What is accepted is in the grammar.
-use Rattle.std.proofs.Common.{◌≡◌, ℕ, zero, suc, ◌+◌, ◌-◌, ◌^◌, ◌≤◌, ◌<◌, Bool, true, false, cond, List, [], ◌∷◌, ◌++◌, ◌⊎◌, inl, inr, length, Option, Some, None, refl, sym, ◌∙◌, ap, subst, append_assoc, arith}
+use Rattle.std.proofs.Common.{◌≡◌, ℕ, zero, suc, ◌+◌, ◌-◌, ◌^◌, ◌<◌, Bool, true, false, List, [], ◌∷◌, ◌++◌, ◌⊎◌, inl, inr, length, Option, Some, None, refl, sym, ◌∙◌, ap, subst, append_assoc, arith}
 use Rattle.std.specs.Prelude.{◌==◌, nat_lt}
 use Rattle.std.proofs.lemmas.Bool.{eqb-true, ltb-true, cond_both}
-use Rattle.std.proofs.lemmas.List.{append-nil, length-append}
+use Rattle.std.proofs.lemmas.List.{length-append}
 use Rattle.js_json.specs.declared.levels.Level.{Level}
 use Rattle.js_json.specs.declared.levels.Level.TheVariants as level
-use Rattle.js_json.specs.declared.machine.Inner.TheVariants as inner
 use Rattle.js_json.specs.declared.machine.Part.{Part}
 use Rattle.js_json.specs.declared.machine.Part.TheVariants as part
 use Rattle.js_json.specs.declared.machine.Taken.{Taken}
@@ -14,9 +13,9 @@ use Rattle.js_json.specs.declared.machine.Spot.{Spot}
 use Rattle.js_json.specs.declared.machine.Spot.TheVariants as spot
 use Rattle.js_json.specs.declared.machine.State.{State}
 use Rattle.js_json.specs.Units.{is_blank}
-use Rattle.js_json.specs.Lists.{Every, Passes, Then, Many, Either, One, joined}
+use Rattle.js_json.specs.Lists.{Then, Many, Either, One}
 use Rattle.js_json.specs.Grammar.{Blanks, IsKey, IsScalar, Parted, Between, Item, Member, IsArray, IsObject, IsValue, IsJson}
-use Rattle.js_json.specs.Machine.{Step, stay, open_one, begin_part, begin, begin_key, close_array, close_object, next, after, on_begin, on_first_item, on_first_key, on_next_key, on_colon, on_done, behind, is_key, on_taken, step_at, step, stops_at, stops, went, accepts, start, first_part, token, may_end}
+use Rattle.js_json.specs.Machine.{Step, stay, begin_part, begin, begin_key, close_array, close_object, next, on_first_item, on_first_key, on_done, behind, is_key, on_taken, step_at, step, stops_at, went, accepts, start, first_part, token, may_end}
 use Rattle.js_json.proofs.Tokens.{Spelled, IsToken, Ends, GoesOn, token_goes, token_ends, Begun, first_begun, text_begun}
 
 -- ---- lists one behind the other
@@ -132,9 +131,9 @@ member_then V Y us t =
     let B = Then Blanks A in
     let C = Then IsKey B in
     then_assoc Blanks C Y us (then_second Blanks _ (Then C Y) us
-      (λ vs s. then_assoc IsKey B Y vs (then_second IsKey _ (Then B Y) vs
-        (λ ws r. then_assoc Blanks A Y ws (then_second Blanks _ (Then A Y) ws
-          (λ xs q. then_assoc (One 58) (Item V) Y xs (then_second (One 58) _ (Then (Item V) Y) xs (λ ys p. item_then V Y ys p) q)) r)) s)) t)
+    (λ vs s. then_assoc IsKey B Y vs (then_second IsKey _ (Then B Y) vs
+    (λ ws r. then_assoc Blanks A Y ws (then_second Blanks _ (Then A Y) ws
+    (λ xs q. then_assoc (One 58) (Item V) Y xs (then_second (One 58) _ (Then (Item V) Y) xs (λ ys p. item_then V Y ys p) q)) r)) s)) t)
 
 -- brackets with what stands between them, and what is behind
 bracket_then : (a b : ℕ) (E R : List ℕ → Type 0) (u : ℕ) (us : List ℕ) → (u == a) ≡ true → Then E (Then (One b) R) us → Then (Between a E b) R (u ∷ us)
@@ -252,7 +251,7 @@ Rests key ls w us = TokenThen key ls (w ++ us)
 taken_makes : (key : Bool) (ls : List Level) (w : List ℕ) (u : ℕ) (us : List ℕ) (t : Taken) → length w + length (u ∷ us) < 2 ^ 63 → GoesOn key w u t → Makes (Rests key ls w) u us (on_taken ls key t u)
 taken_makes key ls w u us (taken.More p) l g =
     λ f. let len = length-append w (u ∷ []) in
-      subst (λ (k : Bool). TokenThen k ls (w ++ u ∷ us)) g.1 (subst (TokenThen (is_key p) ls) (append_assoc w (u ∷ []) us) (f (w ++ u ∷ []) g.0 (omega (arith, l, len))))
+    subst (λ (k : Bool). TokenThen k ls (w ++ u ∷ us)) g.1 (subst (TokenThen (is_key p) ls) (append_assoc w (u ∷ []) us) (f (w ++ u ∷ []) g.0 (omega (arith, l, len))))
 taken_makes key ls w u us taken.Closed l g = λ f. closed_then key ls w u us g f
 taken_makes key ls w u us taken.Ended l g = makes_map (After ls) (Rests key ls w) u us (on_done ls u) (ended_then key ls w (u ∷ us) g) (done_makes ls u us)
 taken_makes key ls w u us taken.Bad l g = tt
@@ -271,15 +270,15 @@ first_item_makes : (ls : List Level) (u : ℕ) (us : List ℕ) → length us + 1
 first_item_makes ls u us l =
     cond_both (is_blank u) _ _ (Makes (Follows ls spot.FirstItem) u us) (λ h f. blank_either (ValueThen ls) (ClosesArray ls) u us h f)
     (λ a. cond_both (u == 93) _ _ (Makes (Follows ls spot.FirstItem) u us)
-      (λ e. makes_map (ClosesArray ls) (Follows ls spot.FirstItem) u us (close_array ls) (λ c. inr (no_blanks _ (u ∷ us) c)) (close_array_makes ls u us e))
-      (λ b. makes_map (ValueThen ls) (Follows ls spot.FirstItem) u us (begin ls u) (λ v. inl (no_blanks _ (u ∷ us) v)) (begin_makes ls u us l)))
+    (λ e. makes_map (ClosesArray ls) (Follows ls spot.FirstItem) u us (close_array ls) (λ c. inr (no_blanks _ (u ∷ us) c)) (close_array_makes ls u us e))
+    (λ b. makes_map (ValueThen ls) (Follows ls spot.FirstItem) u us (begin ls u) (λ v. inl (no_blanks _ (u ∷ us) v)) (begin_makes ls u us l)))
 
 first_key_makes : (ls : List Level) (u : ℕ) (us : List ℕ) → length us + 1 < 2 ^ 63 → Makes (Follows ls spot.FirstKey) u us (on_first_key ls u)
 first_key_makes ls u us l =
     cond_both (is_blank u) _ _ (Makes (Follows ls spot.FirstKey) u us) (λ h f. blank_either (KeyThen ls) (ClosesObject ls) u us h f)
     (λ a. cond_both (u == 125) _ _ (Makes (Follows ls spot.FirstKey) u us)
-      (λ e. makes_map (ClosesObject ls) (Follows ls spot.FirstKey) u us (close_object ls) (λ c. inr (no_blanks _ (u ∷ us) c)) (close_object_makes ls u us e))
-      (λ b. makes_map (KeyThen ls) (Follows ls spot.FirstKey) u us (begin_key ls u) (λ v. inl (no_blanks _ (u ∷ us) v)) (key_makes ls u us l)))
+    (λ e. makes_map (ClosesObject ls) (Follows ls spot.FirstKey) u us (close_object ls) (λ c. inr (no_blanks _ (u ∷ us) c)) (close_object_makes ls u us e))
+    (λ b. makes_map (KeyThen ls) (Follows ls spot.FirstKey) u us (begin_key ls u) (λ v. inl (no_blanks _ (u ∷ us) v)) (key_makes ls u us l)))
 
 step_makes : (ls : List Level) (s : Spot) (u : ℕ) (us : List ℕ) → length us + 1 < 2 ^ 63 → Makes (Follows ls s) u us (step_at ls s u)
 step_makes ls spot.Begin u us l =

@@ -1,8 +1,8 @@
 -- What of a token was read, and that each unit keeps it so.
-use Rattle.std.proofs.Common.{◌≡◌, ℕ, ◌+◌, ◌-◌, ◌^◌, ◌≤◌, ◌<◌, Bool, true, false, cond, List, [], ◌∷◌, ◌++◌, ◌⊎◌, inl, inr, length, map, Option, Some, None, refl, sym, ◌∙◌, ap, subst, append_assoc, arith}
-use Rattle.std.specs.Prelude.{not, ◌||◌, ◌&&◌, ◌==◌, nat_lt, min, flat_map}
+use Rattle.std.proofs.Common.{◌≡◌, ℕ, ◌+◌, ◌^◌, ◌≤◌, ◌<◌, Bool, true, false, cond, List, [], ◌∷◌, ◌++◌, inl, inr, length, map, Option, Some, None, refl, sym, ◌∙◌, ap, subst, append_assoc, arith}
+use Rattle.std.specs.Prelude.{not, ◌==◌, nat_lt, min, flat_map}
 use Rattle.std.proofs.Math.Nat.{min-eq_left}
-use Rattle.std.proofs.lemmas.Bool.{eqb-true, or_from, and_parts, cond_both}
+use Rattle.std.proofs.lemmas.Bool.{eqb-true, or_from, cond_both}
 use Rattle.std.proofs.lemmas.List.{append-nil, map-append, length-append}
 use Rattle.std.proofs.lemmas.Grind.{flat_map-append}
 use Rattle.js_arena.specs.Names.{is_one_of, refused_names}
@@ -18,11 +18,11 @@ use Rattle.js_json.specs.declared.machine.Part.{Part}
 use Rattle.js_json.specs.declared.machine.Part.TheVariants as part
 use Rattle.js_json.specs.declared.machine.Taken.{Taken}
 use Rattle.js_json.specs.declared.machine.Taken.TheVariants as taken
-use Rattle.js_json.specs.Units.{is_digit, is_hex, code_of, is_escape, escaped, is_mark}
+use Rattle.js_json.specs.Units.{is_digit, is_hex, is_escape, is_mark}
 use Rattle.js_json.specs.Lists.{Every, Passes}
-use Rattle.js_json.specs.Number.{Sign, Bare, Plus, Minus, Number, IsWhole, IsNumber, IsSafe, IsSafeNumber, minus_units, fraction_units, sign_units, exponent_units, number_units, decimal, is_down}
-use Rattle.js_json.specs.Grammar.{Letter, Raw, Escape, Code, letter_units, letter_value, is_raw, IsLetter, IsTextOf, Anything, IsAllowed, IsKey, IsWord, IsScalar}
-use Rattle.js_json.specs.Machine.{next_of, word_on, in_word, name_with, closed, in_plain, in_escape, in_code, in_last, in_text, most, push, raised, is_safe, is_safe_with, is_whole, number_at, ended, behind_fraction, behind_whole, in_minus, in_whole, in_point, in_fraction, in_sign, in_mark, in_exponent, in_number, first_part, token, may_end, is_key}
+use Rattle.js_json.specs.Number.{Sign, Bare, Plus, Minus, IsWhole, minus_units, fraction_units, sign_units, exponent_units, decimal, is_down}
+use Rattle.js_json.specs.Grammar.{Letter, Raw, Escape, Code, letter_units, letter_value, IsLetter, IsKey, IsWord, IsScalar}
+use Rattle.js_json.specs.Machine.{next_of, word_on, in_word, name_with, closed, in_plain, in_escape, in_text, most, push, raised, is_safe, is_safe_with, is_whole, ended, behind_fraction, behind_whole, in_minus, in_whole, in_point, in_fraction, in_sign, in_mark, in_exponent, in_number, first_part, token, may_end, is_key}
 use Rattle.js_json.proofs.Decimals.{Held, SafeAt, decimal_push, held_push, safe_found, raised_exact, capped}
 use Rattle.js_json.proofs.Names.{clip, clip_with, allowed_found}
 
@@ -194,27 +194,31 @@ in_word_goes x w u h = cond_both (u == next_of x) (word_on x) taken.Bad (GoesOn 
 
 -- one more unit of a letter
 text_more : (key : Bool) (name : List ℕ) (i j : Inner) (w : List ℕ) (u : ℕ) → TextRead name i w → inner_units i ++ u ∷ [] ≡ inner_units j → IsInner j → GoesOn key w u (taken.More (part.Text key name j))
-text_more key name i j w u r e h =
-    (record {
-      letters = r.letters;
-      are = r.are;
-      is_name = r.is_name;
-      is_inner = h;
-      is = ap (λ (z : List ℕ). z ++ u ∷ []) r.is ∙ ap (λ (z : List ℕ). 34 ∷ z) (append_assoc (flat_map letter_units r.letters) (inner_units i) (u ∷ []) ∙ ap (λ (z : List ℕ). flat_map letter_units r.letters ++ z) e);
-    }, refl)
+text_more key name i j w u r e h = (
+  record {
+    letters = r.letters;
+    are = r.are;
+    is_name = r.is_name;
+    is_inner = h;
+    is = ap (λ (z : List ℕ). z ++ u ∷ []) r.is ∙ ap (λ (z : List ℕ). 34 ∷ z) (append_assoc (flat_map letter_units r.letters) (inner_units i) (u ∷ []) ∙ ap (λ (z : List ℕ). flat_map letter_units r.letters ++ z) e);
+  },
+  refl,
+)
 
 -- the last unit of a letter
 text_letter : (key : Bool) (name : List ℕ) (i : Inner) (l : Letter) (w : List ℕ) (u : ℕ) → TextRead name i w → inner_units i ++ u ∷ [] ≡ letter_units l → IsLetter l → GoesOn key w u (taken.More (part.Text key (name_with name (letter_value l)) inner.Plain))
 text_letter key name i l w u r e h =
-    let front = flat_map letter_units r.letters in
-    (record {
-      letters = r.letters ++ l ∷ [];
-      are = every_push IsLetter r.letters l r.are h;
-      is_name = ap (λ (z : List ℕ). name_with z (letter_value l)) r.is_name ∙ clip_with (map letter_value r.letters) (letter_value l) ∙ ap clip (sym (map-append letter_value r.letters (l ∷ [])));
-      is_inner = tt;
-      is = ap (λ (z : List ℕ). z ++ u ∷ []) r.is ∙ ap (λ (z : List ℕ). 34 ∷ z) (append_assoc front (inner_units i) (u ∷ []) ∙ ap (λ (z : List ℕ). front ++ z) (e ∙ sym (append-nil (letter_units l)))
-        ∙ sym (flat_map-append letter_units r.letters (l ∷ [])) ∙ sym (append-nil (flat_map letter_units (r.letters ++ l ∷ []))));
-    }, refl)
+    let front = flat_map letter_units r.letters in (
+      record {
+        letters = r.letters ++ l ∷ [];
+        are = every_push IsLetter r.letters l r.are h;
+        is_name = ap (λ (z : List ℕ). name_with z (letter_value l)) r.is_name ∙ clip_with (map letter_value r.letters) (letter_value l) ∙ ap clip (sym (map-append letter_value r.letters (l ∷ [])));
+        is_inner = tt;
+        is = ap (λ (z : List ℕ). z ++ u ∷ []) r.is ∙ ap (λ (z : List ℕ). 34 ∷ z) (append_assoc front (inner_units i) (u ∷ []) ∙ ap (λ (z : List ℕ). front ++ z) (e ∙ sym (append-nil (letter_units l)))
+            ∙ sym (flat_map-append letter_units r.letters (l ∷ [])) ∙ sym (append-nil (flat_map letter_units (r.letters ++ l ∷ []))));
+      },
+      refl,
+    )
 
 quoted : (name : List ℕ) (w : List ℕ) (u : ℕ) (r : TextRead name inner.Plain w) → (u == 34) ≡ true → w ++ u ∷ [] ≡ 34 ∷ (flat_map letter_units r.letters ++ 34 ∷ [])
 quoted name w u r e =
@@ -296,8 +300,8 @@ exponent_token n places down e w r l s =
     let c = front_short n places r.before r.front in
     let d = places_short n places r.before r.front in
     let same : is_safe_with n places down (decimal (r.first ∷ r.rest)) ≡ true =
-      sym (capped (r.front.whole ++ r.front.fraction) n (decimal (r.first ∷ r.rest)) places down r.front.held (omega (arith, a, b, c, l)) (omega (arith, a, b, d, l)))
-      ∙ ap (λ (x : ℕ). is_safe_with n places down x) (sym r.is_exponent) ∙ s in
+    sym (capped (r.front.whole ++ r.front.fraction) n (decimal (r.first ∷ r.rest)) places down r.front.held (omega (arith, a, b, c, l)) (omega (arith, a, b, d, l)))
+    ∙ ap (λ (x : ℕ). is_safe_with n places down x) (sym r.is_exponent) ∙ s in
     number_token n places r.before w r.front r.mark r.sign (r.first ∷ r.rest) r.is_mark_ (r.digit, r.every) (ap (λ (z : Bool). is_safe_with n places z (decimal (r.first ∷ r.rest))) r.is_down_ ∙ same) r.is
 
 ended_goes : (w : List ℕ) (u : ℕ) (safe : Bool) → (safe ≡ true → IsScalar w) → GoesOn false w u (ended safe)
@@ -326,24 +330,27 @@ minus_goes : (w : List ℕ) (u : ℕ) → w ≡ 45 ∷ [] → GoesOn false w u (
 minus_goes w u e =
     cond_both (u == 48) _ _ (GoesOn false w u) (λ t. ((true, ap (λ (z : List ℕ). z ++ u ∷ []) e ∙ ap (λ (z : ℕ). 45 ∷ z ∷ []) (eqb-true u 48 t)), refl))
     (λ a. cond_both (is_digit u) _ _ (GoesOn false w u)
-      (λ d. (record { minus = true; first = u; rest = []; digit = d; apart = a; every = tt; held = held_push [] u digits.Zero d (omega arith) refl; is = ap (λ (z : List ℕ). z ++ u ∷ []) e }, refl))
-      (λ d. tt))
+    (λ d. (record { minus = true; first = u; rest = []; digit = d; apart = a; every = tt; held = held_push [] u digits.Zero d (omega arith) refl; is = ap (λ (z : List ℕ). z ++ u ∷ []) e }, refl))
+    (λ d. tt))
 
 whole_goes : (n : Digits) (w : List ℕ) (u : ℕ) → WholeRead n w → length w < 2 ^ 63 → GoesOn false w u (in_whole n u)
 whole_goes n w u r l =
     let a = ap length r.is in
     let b = length-append (minus_units r.minus) (r.first ∷ r.rest) in
     cond_both (is_digit u) _ _ (GoesOn false w u)
-    (λ d. (record {
-      minus = r.minus;
-      first = r.first;
-      rest = r.rest ++ u ∷ [];
-      digit = r.digit;
-      apart = r.apart;
-      every = every_push (Passes is_digit) r.rest u r.every d;
-      held = held_push (r.first ∷ r.rest) u n d (omega (arith, a, b, l)) r.held;
-      is = ap (λ (z : List ℕ). z ++ u ∷ []) r.is ∙ append_assoc (minus_units r.minus) (r.first ∷ r.rest) (u ∷ []);
-    }, refl))
+    (λ d. (
+      record {
+        minus = r.minus;
+        first = r.first;
+        rest = r.rest ++ u ∷ [];
+        digit = r.digit;
+        apart = r.apart;
+        every = every_push (Passes is_digit) r.rest u r.every d;
+        held = held_push (r.first ∷ r.rest) u n d (omega (arith, a, b, l)) r.held;
+        is = ap (λ (z : List ℕ). z ++ u ∷ []) r.is ∙ append_assoc (minus_units r.minus) (r.first ∷ r.rest) (u ∷ []);
+      },
+      refl,
+    ))
     (λ d. whole_end n r.minus (r.first ∷ r.rest) w u (whole_is n w r) r.held r.is)
 
 point_goes : (n : Digits) (w : List ℕ) (u : ℕ) → PointRead n w → length w < 2 ^ 63 → GoesOn false w u (in_point n u)
@@ -352,18 +359,21 @@ point_goes n w u r l =
     let b = length-append (minus_units r.minus) (r.whole ++ 46 ∷ []) in
     let c = length-append r.whole (46 ∷ []) in
     cond_both (is_digit u) _ _ (GoesOn false w u)
-    (λ d. (record {
-      minus = r.minus;
-      whole = r.whole;
-      first = u;
-      rest = [];
-      is_whole_ = r.is_whole_;
-      digit = d;
-      every = tt;
-      held = held_push r.whole u n d (omega (arith, a, b, c, l)) r.held;
-      is_places = refl;
-      is = ap (λ (z : List ℕ). z ++ u ∷ []) r.is ∙ append_assoc (minus_units r.minus) (r.whole ++ 46 ∷ []) (u ∷ []) ∙ ap (λ (z : List ℕ). minus_units r.minus ++ z) (append_assoc r.whole (46 ∷ []) (u ∷ []));
-    }, refl))
+    (λ d. (
+      record {
+        minus = r.minus;
+        whole = r.whole;
+        first = u;
+        rest = [];
+        is_whole_ = r.is_whole_;
+        digit = d;
+        every = tt;
+        held = held_push r.whole u n d (omega (arith, a, b, c, l)) r.held;
+        is_places = refl;
+        is = ap (λ (z : List ℕ). z ++ u ∷ []) r.is ∙ append_assoc (minus_units r.minus) (r.whole ++ 46 ∷ []) (u ∷ []) ∙ ap (λ (z : List ℕ). minus_units r.minus ++ z) (append_assoc r.whole (46 ∷ []) (u ∷ []));
+      },
+      refl,
+    ))
     (λ d. tt)
 
 fraction_goes : (n : Digits) (places : ℕ) (w : List ℕ) (u : ℕ) → FractionRead n places w → length w < 2 ^ 63 → GoesOn false w u (in_fraction n places u)
@@ -375,37 +385,43 @@ fraction_goes n places w u r l =
     let f = length-append r.rest (u ∷ []) in
     let g = r.is_places in
     cond_both (is_digit u) _ _ (GoesOn false w u)
-    (λ d. (record {
-      minus = r.minus;
-      whole = r.whole;
-      first = r.first;
-      rest = r.rest ++ u ∷ [];
-      is_whole_ = r.is_whole_;
-      digit = r.digit;
-      every = every_push (Passes is_digit) r.rest u r.every d;
-      held = subst (λ (z : List ℕ). Held z (push n u)) (append_assoc r.whole (r.first ∷ r.rest) (u ∷ [])) (held_push (r.whole ++ r.first ∷ r.rest) u n d (omega (arith, a, b, c, e, l)) r.held);
-      is_places = min-eq_left (omega (arith, a, b, c, g, l)) ∙ omega (arith, f, g);
-      is = ap (λ (z : List ℕ). z ++ u ∷ []) r.is ∙ append_assoc (minus_units r.minus) (r.whole ++ 46 ∷ r.first ∷ r.rest) (u ∷ []) ∙ ap (λ (z : List ℕ). minus_units r.minus ++ z) (append_assoc r.whole (46 ∷ r.first ∷ r.rest) (u ∷ []));
-    }, refl))
+    (λ d. (
+      record {
+        minus = r.minus;
+        whole = r.whole;
+        first = r.first;
+        rest = r.rest ++ u ∷ [];
+        is_whole_ = r.is_whole_;
+        digit = r.digit;
+        every = every_push (Passes is_digit) r.rest u r.every d;
+        held = subst (λ (z : List ℕ). Held z (push n u)) (append_assoc r.whole (r.first ∷ r.rest) (u ∷ [])) (held_push (r.whole ++ r.first ∷ r.rest) u n d (omega (arith, a, b, c, e, l)) r.held);
+        is_places = min-eq_left (omega (arith, a, b, c, g, l)) ∙ omega (arith, f, g);
+        is = ap (λ (z : List ℕ). z ++ u ∷ []) r.is ∙ append_assoc (minus_units r.minus) (r.whole ++ 46 ∷ r.first ∷ r.rest) (u ∷ []) ∙ ap (λ (z : List ℕ). minus_units r.minus ++ z) (append_assoc r.whole (46 ∷ r.first ∷ r.rest) (u ∷ []));
+      },
+      refl,
+    ))
     (λ d. fraction_end n places w u (record { minus = r.minus; whole = r.whole; fraction = r.first ∷ r.rest; is_whole_ = r.is_whole_; every = (r.digit, r.every); held = r.held; is_places = r.is_places; is = r.is }))
 
 sign_goes : (n : Digits) (places : ℕ) (down : Bool) (w : List ℕ) (u : ℕ) → SignRead n places down w → GoesOn false w u (in_sign n places down u)
 sign_goes n places down w u r =
     cond_both (is_digit u) _ _ (GoesOn false w u)
-    (λ d. (record {
-      before = r.before;
-      mark = r.mark;
-      sign = r.sign;
-      first = u;
-      rest = [];
-      front = r.front;
-      is_mark_ = r.is_mark_;
-      is_down_ = r.is_down_;
-      digit = d;
-      every = tt;
-      is_exponent = raised_exact 0 u;
-      is = ap (λ (z : List ℕ). z ++ u ∷ []) r.is ∙ append_assoc r.before (r.mark ∷ sign_units r.sign) (u ∷ []);
-    }, refl))
+    (λ d. (
+      record {
+        before = r.before;
+        mark = r.mark;
+        sign = r.sign;
+        first = u;
+        rest = [];
+        front = r.front;
+        is_mark_ = r.is_mark_;
+        is_down_ = r.is_down_;
+        digit = d;
+        every = tt;
+        is_exponent = raised_exact 0 u;
+        is = ap (λ (z : List ℕ). z ++ u ∷ []) r.is ∙ append_assoc r.before (r.mark ∷ sign_units r.sign) (u ∷ []);
+      },
+      refl,
+    ))
     (λ d. tt)
 
 mark_goes : (n : Digits) (places : ℕ) (w : List ℕ) (u : ℕ) → MarkRead n places w → GoesOn false w u (in_mark n places u)
@@ -418,20 +434,23 @@ mark_goes n places w u r =
 exponent_goes : (n : Digits) (places : ℕ) (down : Bool) (e : ℕ) (w : List ℕ) (u : ℕ) → ExponentRead n places down e w → length w < 2 ^ 63 → GoesOn false w u (in_exponent n places down e u)
 exponent_goes n places down e w u r l =
     cond_both (is_digit u) _ _ (GoesOn false w u)
-    (λ d. (record {
-      before = r.before;
-      mark = r.mark;
-      sign = r.sign;
-      first = r.first;
-      rest = r.rest ++ u ∷ [];
-      front = r.front;
-      is_mark_ = r.is_mark_;
-      is_down_ = r.is_down_;
-      digit = r.digit;
-      every = every_push (Passes is_digit) r.rest u r.every d;
-      is_exponent = ap (λ (x : ℕ). raised x u) r.is_exponent ∙ raised_exact (decimal (r.first ∷ r.rest)) u ∙ ap (λ (x : ℕ). min x most) (sym (decimal_push (r.first ∷ r.rest) 0 u));
-      is = ap (λ (z : List ℕ). z ++ u ∷ []) r.is ∙ append_assoc r.before (r.mark ∷ (sign_units r.sign ++ r.first ∷ r.rest)) (u ∷ []) ∙ ap (λ (z : List ℕ). r.before ++ r.mark ∷ z) (append_assoc (sign_units r.sign) (r.first ∷ r.rest) (u ∷ []));
-    }, refl))
+    (λ d. (
+      record {
+        before = r.before;
+        mark = r.mark;
+        sign = r.sign;
+        first = r.first;
+        rest = r.rest ++ u ∷ [];
+        front = r.front;
+        is_mark_ = r.is_mark_;
+        is_down_ = r.is_down_;
+        digit = r.digit;
+        every = every_push (Passes is_digit) r.rest u r.every d;
+        is_exponent = ap (λ (x : ℕ). raised x u) r.is_exponent ∙ raised_exact (decimal (r.first ∷ r.rest)) u ∙ ap (λ (x : ℕ). min x most) (sym (decimal_push (r.first ∷ r.rest) 0 u));
+        is = ap (λ (z : List ℕ). z ++ u ∷ []) r.is ∙ append_assoc r.before (r.mark ∷ (sign_units r.sign ++ r.first ∷ r.rest)) (u ∷ []) ∙ ap (λ (z : List ℕ). r.before ++ r.mark ∷ z) (append_assoc (sign_units r.sign) (r.first ∷ r.rest) (u ∷ []));
+      },
+      refl,
+    ))
     (λ d. ended_goes w u (is_safe_with n places down e) (exponent_token n places down e w r l))
 
 zero_whole : IsWhole (48 ∷ [])
@@ -488,7 +507,7 @@ first_begun u =
     (λ a. cond_both (u == 45) _ _ (Begun u) (λ t. (ap (λ (z : ℕ). z ∷ []) (eqb-true u 45 t), refl))
     (λ b. cond_both (u == 48) _ _ (Begun u) (λ t. ((false, ap (λ (z : ℕ). z ∷ []) (eqb-true u 48 t)), refl))
     (λ c. cond_both (is_digit u) _ _ (Begun u)
-      (λ d. (record { minus = false; first = u; rest = []; digit = d; apart = c; every = tt; held = held_push [] u digits.Zero d (omega arith) refl; is = refl }, refl))
+    (λ d. (record { minus = false; first = u; rest = []; digit = d; apart = c; every = tt; held = held_push [] u digits.Zero d (omega arith) refl; is = refl }, refl))
     (λ d. cond_both (u == 116) _ _ (Begun u) (λ t. (word_begun u 116 _ t (inl refl), refl))
     (λ e. cond_both (u == 102) _ _ (Begun u) (λ t. (word_begun u 102 _ t (inr (inl refl)), refl))
     (λ f. cond_both (u == 110) _ _ (Begun u) (λ t. (word_begun u 110 _ t (inr (inr refl)), refl)) (λ g. tt)))))))

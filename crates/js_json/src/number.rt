@@ -217,10 +217,7 @@ fn in_fraction(digits: Digits, places: u64, unit: u16) -> Taken
     ensures { result ≡ spec.in_fraction digits places unit }
 {
     if is_digit(unit) {
-        number_at(NumberAt::Fraction(
-            push(digits, unit),
-            places.saturating_add(1),
-        ))
+        number_at(NumberAt::Fraction(push(digits, unit), places.saturating_add(1)))
     } else {
         behind_fraction(digits, places, unit)
     }

@@ -1,10 +1,10 @@
-ghost use Rattle.std.specs.Prelude.{◌≡◌, ◌↔◌, IsTrue, []};
+ghost use Rattle.std.specs.Prelude.{◌≡◌, ◌↔◌, IsTrue, ◌<◌, ◌^◌, [], length};
+ghost use Rattle.js_json.specs.Grammar.{IsJson};
 ghost use Rattle.js_json.specs.Machine as spec;
 
 use crate::levels::{Level, Levels, MOST_LEVELS};
-use crate::machine::{Part, Spot, State, Taken};
+use crate::machine::{Inner, Part, Spot, State, Taken};
 use crate::name::Name;
-use crate::machine::Inner;
 use crate::part::{first_part, is_key, may_end, token};
 use crate::units::is_blank;
 use wd_base::Units;
@@ -51,7 +51,10 @@ fn begin_key(levels: Levels, unit: u16) -> Option<State>
     ensures { result ≡ spec.begin_key levels unit }
 {
     if unit == 0x22 {
-        stay(levels, Spot::In(Part::Text(true, Name::new(), Inner::Plain)))
+        stay(
+            levels,
+            Spot::In(Part::Text(true, Name::new(), Inner::Plain)),
+        )
     } else {
         None
     }
@@ -225,13 +228,15 @@ fn stops(state: &State) -> bool
 }
 
 fn accepts(units: &[u16]) -> bool
-    ensures { result ≡ spec.accepts spec.start units.now }
+    ensures accepted { result ≡ spec.accepts spec.start units.now }
+    ensures short { length units.now < 2 ^ 63 }
 {
     let mut state = State {
         levels: Levels::new(),
         spot: Spot::Begin,
     };
-    for at in 0..units.len() {
+    let length = units.len();
+    for at in 0..length {
         match step(state, units[at]) {
             Some(next) => state = next,
             None => return false,
@@ -240,9 +245,11 @@ fn accepts(units: &[u16]) -> bool
     stops(&state)
 }
 
-/// `JSON.parse` of the text throws nothing.
+/// The text is one on which `JSON.parse` (ECMA-262, section 25.5.1) throws nothing here: JSON
+/// (ECMA-404) with at most 64 arrays and objects open at any place, of which each number is a safe
+/// integer and no key a refused name. Time is linear in its length; no memory is taken.
 pub fn valid(text: &Units) -> bool
-    ensures { result ≡ spec.accepts spec.start text.now }
+    ensures { IsTrue result ↔ IsJson text.now }
 {
     accepts(text.as_slice())
 }
