@@ -13,8 +13,7 @@ abbrev pub IsOneOf : List ℕ → List (List ℕ) → Type 0
 IsOneOf name [] = ⊥
 IsOneOf name (word ∷ words) = (name ≡ word) ⊎ IsOneOf name words
 
--- What an object inherits from `Object.prototype` (ECMA-262, section 20.1.3 and annex B.2.2), and `then`, by which promises know
--- each other: the units of such a name.
+-- What an object would inherit from `Object.prototype` (ECMA-262, section 20.1.3), and `then`, by which promises know each other.
 abbrev pub IsRefusedName : List ℕ → Type 0
 IsRefusedName name = IsOneOf name refused_names
 

@@ -1,4 +1,4 @@
-//! What the heap of a script keeps, and which property names it refuses.
+//! The heap of a script. Today it has the property names that are refused.
 #![tactic(auto)]
 
 mod names;

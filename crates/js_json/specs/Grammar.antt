@@ -52,17 +52,21 @@ Anything name = Unit {0}
 abbrev pub IsAllowed : List ℕ → Type 0
 IsAllowed name = IsRefusedName name → ⊥
 
+-- a text
 abbrev pub IsText : List ℕ → Type 0
 IsText us = IsTextOf Anything us
 
+-- a text that may be a key
 abbrev pub IsKey : List ℕ → Type 0
 IsKey us = IsTextOf IsAllowed us
 
 -- ---- values
 
+-- `true`, `false` or `null`
 abbrev pub IsWord : List ℕ → Type 0
 IsWord us = (us ≡ codes "true") ⊎ ((us ≡ codes "false") ⊎ (us ≡ codes "null"))
 
+-- a value that holds no other
 abbrev pub IsScalar : List ℕ → Type 0
 IsScalar us = IsWord us ⊎ (IsSafeNumber us ⊎ IsText us)
 
@@ -82,9 +86,11 @@ Item V us = Then Blanks (Then V Blanks) us
 abbrev pub Member : (List ℕ → Type 0) → List ℕ → Type 0
 Member V us = Then Blanks (Then IsKey (Then Blanks (Then (One 58) (Item V)))) us
 
+-- items, or nothing, between `[` and `]`
 abbrev pub IsArray : (List ℕ → Type 0) → List ℕ → Type 0
 IsArray V us = Between 91 (Either Blanks (Parted (Item V))) 93 us
 
+-- members, or nothing, between `{` and `}`
 abbrev pub IsObject : (List ℕ → Type 0) → List ℕ → Type 0
 IsObject V us = Between 123 (Either Blanks (Parted (Member V))) 125 us
 

@@ -4,7 +4,7 @@ ghost use Rattle.js_json.specs.Machine as spec;
 use crate::machine::{Digits, NumberAt, Part, Taken};
 use crate::units::{is_digit, is_mark};
 
-/// The greatest safe integer (ECMA-262, section 21.1.2.8).
+/// The greatest safe integer (ECMA-262, section 21.1.2.6).
 const MOST_SAFE: u128 = 9_007_199_254_740_991;
 
 /// A power of 10.
