@@ -1,0 +1,23 @@
+use crate::refused_name;
+use std::test::Fail;
+
+#[test]
+fn names_are_refused(rt: HostRuntime) -> Result<(), Fail> {
+    let rows: [(&[u16], bool); 8] = [
+        (&[], false),
+        (&[0x74, 0x68, 0x65, 0x6E], true),
+        (&[0x54, 0x68, 0x65, 0x6E], false),
+        (&[0x74, 0x68, 0x65], false),
+        (&[0x74, 0x68, 0x65, 0x6E, 0x73], false),
+        (&[0x174, 0x68, 0x65, 0x6E], false),
+        (&[0x76, 0x61, 0x6C, 0x75, 0x65, 0x4F, 0x66], true),
+        (
+            &[0x5F, 0x5F, 0x70, 0x72, 0x6F, 0x74, 0x6F, 0x5F, 0x5F],
+            true,
+        ),
+    ];
+    for (name, want) in rows {
+        assert_eq!(rt; refused_name(name), want, "{name:?}");
+    }
+    Ok(())
+}

@@ -1,0 +1,10 @@
+pub mod Back
+pub mod Products
+pub mod Decimals
+pub mod Names
+pub mod Tokens
+pub mod Sound
+pub mod Runs
+pub mod Numbers
+pub mod Complete
+pub mod Exact

@@ -1,0 +1,5 @@
+pub mod Units
+pub mod Lists
+pub mod Number
+pub mod Grammar
+pub mod Machine

@@ -1,0 +1,34 @@
+-- Lists of which a text is made.
+use Rattle.std.specs.Prelude.{◌≡◌, ℕ, Bool, true, List, [], ◌∷◌, ◌++◌, ◌⊎◌}
+
+abbrev pub Every : {A : Type 0} → (A → Type 0) → List A → Type 0
+Every P [] = Unit {0}
+Every P (x ∷ xs) = P x × Every P xs
+
+abbrev pub Passes : (ℕ → Bool) → ℕ → Type 0
+Passes f u = f u ≡ true
+
+-- one of the first kind and behind it one of the second
+pub record Then (P Q : List ℕ → Type 0) (us : List ℕ) : Type 0 where
+  pub front : List ℕ
+  pub back : List ℕ
+  pub is : us ≡ front ++ back
+  pub first : P front
+  pub second : Q back
+
+abbrev pub joined : List (List ℕ) → List ℕ
+joined [] = []
+joined (us ∷ uss) = us ++ joined uss
+
+-- any number of them, one behind the other
+pub record Many (P : List ℕ → Type 0) (us : List ℕ) : Type 0 where
+  pub parts : List (List ℕ)
+  pub every : Every P parts
+  pub is : us ≡ joined parts
+
+abbrev pub Either : (P Q : List ℕ → Type 0) → List ℕ → Type 0
+Either P Q us = P us ⊎ Q us
+
+-- this unit alone
+abbrev pub One : ℕ → List ℕ → Type 0
+One u us = us ≡ u ∷ []
