@@ -12,7 +12,7 @@ use Rattle.wd_top.specs.declared.outcome.Outcome.TheVariants as outcome
 use Rattle.wd_top.specs.Command.{command}
 use Rattle.wd_top.specs.Constant.{constant_means}
 use Rattle.wd_ports.specs.Faults.{Rose}
-use Rattle.wd_top.specs.Ended.{IsSessionEnd, IsServed, HasPort, NoPortMade, Caused, IsEmpty, Ran, Comes, status_for, IsStatus}
+use Rattle.wd_top.specs.Ended.{Call, Asks, IsSessionEnd, HasPort, NoPortMade, Caused, IsEmpty, Ran, Comes, status_for, IsStatus}
 use Rattle.wd_top.specs.Outcome.{status_of, Reports}
 use Rattle.wd_top.specs.Plan.{Plan, NoCommand, NoFile, NoConfig, NoScript, Serves, Plans, AtCommand}
 use Rattle.wd_top.specs.Prepare.{IsEarly, IsFileFault, IsReadPath, OnFileFault, plan_of_outcome}
@@ -32,29 +32,29 @@ pub no_entries : (entries : List Entry) → entries ≡ [] → IsOfSeat 0 entrie
 unfolding IsOfSeat
 no_entries entries e = subst (λ es. EachOfSeat 0 es) (sym e) tt
 
-early_caused : (words : List (List ℕ)) (files : Option Stored) (read_rose maker_rose : Type 0) (world : Config) (o : Outcome) → IsEarly o → IfSome files (λ s. IfSome (plan_of_outcome o) (Plans words s)) → (IsFileFault o → read_rose) → OnFileFault o (IsReadPath words files) → (o ≡ outcome.CommandLine → command words ≡ None)
-    → Caused words files read_rose maker_rose world o
-early_caused words files rr mr world outcome.Done e plan fault named none = absurd e
-early_caused words files rr mr world outcome.CommandLine e plan fault named none = none refl
-early_caused words files rr mr world (outcome.Config x) e plan fault named none = plan
-early_caused words files rr mr world (outcome.Script name) e plan fault named none = plan
-early_caused words files rr mr world (outcome.MissingFile path) e plan fault named none = plan
-early_caused words files rr mr world (outcome.FileFault path) e plan fault named none = (fault tt, named)
-early_caused words files rr mr world (outcome.NoPort seat) e plan fault named none = absurd e
-early_caused words files rr mr world (outcome.NoListen address) e plan fault named none = absurd e
-early_caused words files rr mr world outcome.NoMemory e plan fault named none = tt
+early_caused : (call : Call) (world : Config) (o : Outcome) → IsEarly o → IfSome call.files (λ s. IfSome (plan_of_outcome o) (Plans call.words s)) → (IsFileFault o → call.read_failed) → OnFileFault o (IsReadPath call.words call.files) → (o ≡ outcome.CommandLine → command call.words ≡ None)
+    → Caused call world o
+early_caused call world outcome.Done e plan fault named none = absurd e
+early_caused call world outcome.CommandLine e plan fault named none = none refl
+early_caused call world (outcome.Config x) e plan fault named none = plan
+early_caused call world (outcome.Script name) e plan fault named none = plan
+early_caused call world (outcome.MissingFile path) e plan fault named none = plan
+early_caused call world (outcome.FileFault path) e plan fault named none = (fault tt, named)
+early_caused call world (outcome.NoPort seat) e plan fault named none = absurd e
+early_caused call world (outcome.NoListen address) e plan fault named none = absurd e
+early_caused call world outcome.NoMemory e plan fault named none = tt
 
-session_caused : (words : List (List ℕ)) (files : Option Stored) (read_rose maker_rose : Type 0) (world : Config) (ports : ℕ) (o : Outcome) → IsSessionEnd o → IsServed words files world → (NoPortMade o → (ports ≡ 0) × maker_rose)
-    → Caused words files read_rose maker_rose world o
-session_caused words files rr mr world ports outcome.Done e plan none = plan
-session_caused words files rr mr world ports outcome.CommandLine e plan none = absurd e
-session_caused words files rr mr world ports (outcome.Config x) e plan none = absurd e
-session_caused words files rr mr world ports (outcome.Script name) e plan none = absurd e
-session_caused words files rr mr world ports (outcome.MissingFile path) e plan none = absurd e
-session_caused words files rr mr world ports (outcome.FileFault path) e plan none = absurd e
-session_caused words files rr mr world ports (outcome.NoPort seat) e plan none = (e, plan, (none tt).1)
-session_caused words files rr mr world ports (outcome.NoListen address) e plan none = plan
-session_caused words files rr mr world ports outcome.NoMemory e plan none = tt
+session_caused : (call : Call) (world : Config) (ports : ℕ) (o : Outcome) → IsSessionEnd o → Asks call (Serves world) → (NoPortMade o → (ports ≡ 0) × call.maker_failed)
+    → Caused call world o
+session_caused call world ports outcome.Done e plan none = plan
+session_caused call world ports outcome.CommandLine e plan none = absurd e
+session_caused call world ports (outcome.Config x) e plan none = absurd e
+session_caused call world ports (outcome.Script name) e plan none = absurd e
+session_caused call world ports (outcome.MissingFile path) e plan none = absurd e
+session_caused call world ports (outcome.FileFault path) e plan none = absurd e
+session_caused call world ports (outcome.NoPort seat) e plan none = (e, plan, (none tt).1)
+session_caused call world ports (outcome.NoListen address) e plan none = plan
+session_caused call world ports outcome.NoMemory e plan none = tt
 
 session_early : (empty served : Type 0) (o : Outcome) → IsSessionEnd o → served → IsEarly o → empty ⊎ ((o ≡ outcome.NoMemory) × served)
 session_early empty served outcome.Done e plan h = absurd h
@@ -79,12 +79,12 @@ early_no_port (outcome.NoListen address) e h = e
 early_no_port outcome.NoMemory e h = h
 
 -- an outcome without a session
-pub early_comes : (words : List (List ℕ)) (files : Option Stored) (read_rose maker_rose : Type 0) (o : Outcome) (journal : Journal) (ports : ℕ) (at_ports : Config → Type 0) → IsEarly o
-    → IfSome files (λ s. IfSome (plan_of_outcome o) (Plans words s)) → (IsFileFault o → read_rose) → OnFileFault o (IsReadPath words files) → (o ≡ outcome.CommandLine → command words ≡ None) → journal ≡ record { head = Whole; entries = [] } → ports ≡ 0 → ((world : Config) → at_ports world)
-    → Comes words files read_rose maker_rose o journal ports at_ports
-early_comes words files rr mr o journal ports at_ports early plan fault named none empty no_ports at = record {
+pub early_comes : (call : Call) (o : Outcome) (journal : Journal) (ports : ℕ) (at_ports : Config → Type 0) → IsEarly o
+    → IfSome call.files (λ s. IfSome (plan_of_outcome o) (Plans call.words s)) → (IsFileFault o → call.read_failed) → OnFileFault o (IsReadPath call.words call.files) → (o ≡ outcome.CommandLine → command call.words ≡ None) → journal ≡ record { head = Whole; entries = [] } → ports ≡ 0 → ((world : Config) → at_ports world)
+    → Comes call o journal ports at_ports
+early_comes call o journal ports at_ports early plan fault named none empty no_ports at = record {
   world = no_world;
-  caused = early_caused words files rr mr no_world o early plan fault named none;
+  caused = early_caused call no_world o early plan fault named none;
   early = λ e. inl (ap (λ j. j.entries) empty, no_ports);
   whole = ap (λ j. j.head) empty;
   run = ap (λ j. legal constant_means no_world j) empty ∙ nothing_run;
@@ -97,12 +97,12 @@ early_comes words files rr mr o journal ports at_ports early plan fault named no
 }
 
 -- the outcome of a session
-pub session_comes : (words : List (List ℕ)) (files : Option Stored) (read_rose maker_rose : Type 0) (world : Config) (o : Outcome) (journal : Journal) (ports : ℕ) (at_ports : Config → Type 0) → IsServed words files world → Ran world maker_rose o journal ports (at_ports world)
-    → Comes words files read_rose maker_rose o journal ports at_ports
-session_comes words files rr mr world o journal ports at_ports plan ran = record {
+pub session_comes : (call : Call) (world : Config) (o : Outcome) (journal : Journal) (ports : ℕ) (at_ports : Config → Type 0) → Asks call (Serves world) → Ran world call.maker_failed o journal ports (at_ports world)
+    → Comes call o journal ports at_ports
+session_comes call world o journal ports at_ports plan ran = record {
   world = world;
-  caused = session_caused words files rr mr world ports o ran.end plan ran.none;
-  early = session_early (IsEmpty journal ports) (IsServed words files world) o ran.end plan;
+  caused = session_caused call world ports o ran.end plan ran.none;
+  early = session_early (IsEmpty journal ports) (Asks call (Serves world)) o ran.end plan;
   whole = ran.whole;
   run = ran.run;
   seat = ran.seat;
@@ -124,7 +124,7 @@ Else read_rose sink_rose status = ((status ≡ 5) × read_rose) ⊎ (((status �
 by_plan : (words : List (List ℕ)) (s : Stored) (rr sr : Type 0) (plan asked : Plan) (status : ℕ) → Plans words s asked → Plans words s plan → status_for plan status → status_for asked status ⊎ Else rr sr status
 by_plan words s rr sr plan asked status asks is h = inl (subst (λ p. status_for p status) (plans_unique words s plan asked is asks) h)
 
-by_outcome : (words : List (List ℕ)) (s : Stored) (rr mr sr : Type 0) (world : Config) (o : Outcome) (asked : Plan) (status : ℕ) → Caused words (Some s) rr mr world o → Plans words s asked → status ≡ status_of o → status_for asked status ⊎ Else rr sr status
+by_outcome : (words : List (List ℕ)) (s : Stored) (rr mr sr : Type 0) (world : Config) (o : Outcome) (asked : Plan) (status : ℕ) → Caused (record { words = words; files = Some s; read_failed = rr; maker_failed = mr }) world o → Plans words s asked → status ≡ status_of o → status_for asked status ⊎ Else rr sr status
 by_outcome words s rr mr sr world outcome.Done asked status caused asks e = by_plan words s rr sr (Serves world) asked status asks caused (inl e)
 by_outcome words s rr mr sr world outcome.CommandLine asked status caused asks e = by_plan words s rr sr NoCommand asked status asks (no_command words s caused) e
 by_outcome words s rr mr sr world (outcome.Config x) asked status caused asks e = by_plan words s rr sr (NoConfig x) asked status asks caused e
@@ -137,7 +137,7 @@ by_outcome words s rr mr sr world outcome.NoMemory asked status caused asks e = 
 
 -- the status is the one that the words and the files ask for
 pub status_is : (words : List (List ℕ)) (files : Option Stored) (rr mr : Type 0) (held held' : Option (List ℕ)) (count count' status : ℕ) (o : Outcome) (journal : Journal) (ports : ℕ) (at_ports : Config → Type 0)
-    → Comes words files rr mr o journal ports at_ports → Reports o status held held' count count' → IfSome files (λ s. IsStatus words s rr (Rose count count') status)
+    → Comes (record { words = words; files = files; read_failed = rr; maker_failed = mr }) o journal ports at_ports → Reports o status held held' count count' → IfSome files (λ s. IsStatus words s rr (Rose count count') status)
 status_is words None rr mr held held' count count' status o journal ports at_ports comes reports = tt
 status_is words (Some s) rr mr held held' count count' status o journal ports at_ports comes reports = λ asked asks.
     elim reports.which as (λ w. status_for asked status ⊎ Else rr (Rose count count') status) [

@@ -123,21 +123,35 @@ NoPortMade (outcome.NoPort seat) = Unit {0}
 NoPortMade (outcome.NoListen address) = ⊥
 NoPortMade outcome.NoMemory = ⊥
 
--- the words and the files ask to serve this world
-abbrev pub IsServed : List (List ℕ) → Option Stored → Config → Type 0
-IsServed words files world = IfSome files (λ s. Plans words s (Serves world))
+-- what a call is given, and what failed in it: its words, the told files, whether a read of them failed, and whether the maker did
+pub record Call : Type 1 where
+  pub words : List (List ℕ)
+  pub files : Option Stored
+  pub read_failed : Type 0
+  pub maker_failed : Type 0
+
+-- what a call prints: what the sink held before it and holds after it, and how often the sink had failed and has failed
+pub record Printed : Type 0 where
+  pub before : Option (List ℕ)
+  pub after : Option (List ℕ)
+  pub failures_before : ℕ
+  pub failures_after : ℕ
+
+-- the words and the files ask for this
+abbrev pub Asks : Call → Plan → Type 0
+Asks call plan = IfSome call.files (λ s. Plans call.words s plan)
 
 -- the cause of each outcome
-abbrev pub Caused : List (List ℕ) → Option Stored → Type 0 → Type 0 → Config → Outcome → Type 0
-Caused words files read_rose maker_rose world outcome.Done = IsServed words files world
-Caused words files read_rose maker_rose world outcome.CommandLine = command words ≡ None
-Caused words files read_rose maker_rose world (outcome.Config fault) = IfSome files (λ s. Plans words s (NoConfig fault))
-Caused words files read_rose maker_rose world (outcome.Script name) = IfSome files (λ s. Plans words s (NoScript name))
-Caused words files read_rose maker_rose world (outcome.MissingFile path) = IfSome files (λ s. Plans words s (NoFile path))
-Caused words files read_rose maker_rose world (outcome.FileFault path) = read_rose × IsReadPath words files path
-Caused words files read_rose maker_rose world (outcome.NoPort seat) = (seat.0 ≡ 0) × IsServed words files world × maker_rose
-Caused words files read_rose maker_rose world (outcome.NoListen address) = IsServed words files world
-Caused words files read_rose maker_rose world outcome.NoMemory = Unit {0}
+abbrev pub Caused : Call → Config → Outcome → Type 0
+Caused call world outcome.Done = Asks call (Serves world)
+Caused call world outcome.CommandLine = command call.words ≡ None
+Caused call world (outcome.Config fault) = Asks call (NoConfig fault)
+Caused call world (outcome.Script name) = Asks call (NoScript name)
+Caused call world (outcome.MissingFile path) = Asks call (NoFile path)
+Caused call world (outcome.FileFault path) = call.read_failed × IsReadPath call.words call.files path
+Caused call world (outcome.NoPort seat) = (seat.0 ≡ 0) × Asks call (Serves world) × call.maker_failed
+Caused call world (outcome.NoListen address) = Asks call (Serves world)
+Caused call world outcome.NoMemory = Unit {0}
 
 -- no request has arrived, and no port was made
 abbrev pub IsEmpty : Journal → ℕ → Type 0
@@ -145,7 +159,7 @@ IsEmpty journal ports = (journal.entries ≡ []) × (ports ≡ 0)
 
 -- What a session leaves: a whole journal of seat 0 that is a legal run of the world, one port where one was made, and what
 -- holds of it. Where a port could not be had, no request has arrived, and at the end each has ended.
-pub record Ran (world : Config) (maker_rose : Type 0) (o : Outcome) (journal : Journal) (ports : ℕ) (at_ports : Type 0) : Type 0 where
+pub record Ran (world : Config) (maker_failed : Type 0) (o : Outcome) (journal : Journal) (ports : ℕ) (at_ports : Type 0) : Type 0 where
   pub end : IsSessionEnd o
   pub whole : journal.head ≡ Whole
   pub run : legal constant_means world journal ≡ true
@@ -154,16 +168,17 @@ pub record Ran (world : Config) (maker_rose : Type 0) (o : Outcome) (journal : J
   pub over : o ≡ outcome.Done → IsOver constant_means world journal.entries
   pub few : ports ≤ 1
   pub one : HasPort o → ports ≡ 1
-  pub none : NoPortMade o → (ports ≡ 0) × maker_rose
+  pub none : NoPortMade o → (ports ≡ 0) × maker_failed
   pub at : at_ports
 
 -- An outcome with its cause, and what it leaves: a whole journal of seat 0 that is a legal run of the world, one port where
 -- one was made, and what holds of it. An outcome without a session leaves nothing, and where a port could not be had no
--- request has arrived; where the session is done each has ended. At want of memory the world is the one that is asked for, where there was a session.
-pub record Comes (words : List (List ℕ)) (files : Option Stored) (read_rose maker_rose : Type 0) (o : Outcome) (journal : Journal) (ports : ℕ) (at_ports : Config → Type 0) : Type 0 where
+-- request has arrived; where the session is done each has ended. At want of memory the world is the one that is asked for,
+-- where there was a session.
+pub record Comes (call : Call) (o : Outcome) (journal : Journal) (ports : ℕ) (at_ports : Config → Type 0) : Type 0 where
   pub world : Config
-  pub caused : Caused words files read_rose maker_rose world o
-  pub early : IsEarly o → IsEmpty journal ports ⊎ ((o ≡ outcome.NoMemory) × IsServed words files world)
+  pub caused : Caused call world o
+  pub early : IsEarly o → IsEmpty journal ports ⊎ ((o ≡ outcome.NoMemory) × Asks call (Serves world))
   pub whole : journal.head ≡ Whole
   pub run : legal constant_means world journal ≡ true
   pub seat : IsOfSeat 0 journal.entries
@@ -174,10 +189,10 @@ pub record Comes (words : List (List ℕ)) (files : Option Stored) (read_rose ma
   pub at : at_ports world
 
 -- how a call ended: its outcome, and what was printed of it
-pub record Ends (words : List (List ℕ)) (files : Option Stored) (read_rose maker_rose : Type 0) (held held' : Option (List ℕ)) (count count' status : ℕ) (journal : Journal) (ports : ℕ) (at_ports : Outcome → Config → Type 0) : Type 0 where
+pub record Ends (call : Call) (printed : Printed) (status : ℕ) (journal : Journal) (ports : ℕ) (at_ports : Outcome → Config → Type 0) : Type 0 where
   pub outcome : Outcome
-  pub comes : Comes words files read_rose maker_rose outcome journal ports (at_ports outcome)
-  pub reports : Reports outcome status held held' count count'
+  pub comes : Comes call outcome journal ports (at_ports outcome)
+  pub reports : Reports outcome status printed.before printed.after printed.failures_before printed.failures_after
 
 -- the statuses that a plan allows, where no read and no print failed and memory was there: just one, but for a session
 abbrev pub status_for : Plan → ℕ → Type 0

@@ -489,14 +489,15 @@ fn a_refused_file_has_its_status_and_text(rt: HostRuntime) -> Result<(), Fail> {
 
 #[test]
 fn a_fault_has_its_status_and_text(rt: HostRuntime) -> Result<(), Fail> {
-    let cases: [(Part, u8, &[u8]); 3] = [
-        (Part::Files, 5, b"error: file config.capnp\n"),
-        (Part::Maker, 7, b"error: port 0\n"),
-        (Part::Port, 7, b"error: listen *:8080\n"),
+    let cases: [(Part, u64, u8, &[u8]); 4] = [
+        (Part::Files, 0, 5, b"error: file config.capnp\n"),
+        (Part::Files, 1, 5, b"error: file worker.js\n"),
+        (Part::Maker, 0, 7, b"error: port 0\n"),
+        (Part::Port, 0, 7, b"error: listen *:8080\n"),
     ];
-    for (part, status, text) in cases {
+    for (part, call_number, status, text) in cases {
         let around = Around {
-            fails: Some((part, 0)),
+            fails: Some((part, call_number)),
             ..one_link(&[])
         };
         let came = call(&rt, rt.alloc(), &around, None)?;

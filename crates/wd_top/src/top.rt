@@ -90,7 +90,7 @@ fn run<R: Wait, F: Files, M: Maker>(
     ports: &mut Vec<M::Port>,
 ) -> Ran
     requires { ports.old.items ≡ [] }
-    ensures comes { Comes (map string_bytes words.now) (F.told files.old).files (RoseIn ReadFile (F.faults files.old) (F.faults files.new)) (Rose (M.failures maker.old) (M.failures maker.new)) result.outcome result.journal (length ports.new.items)
+    ensures comes { Comes (record { words = map string_bytes words.now; files = (F.told files.old).files; read_failed = RoseIn ReadFile (F.faults files.old) (F.faults files.new); maker_failed = Rose (M.failures maker.old) (M.failures maker.new) }) result.outcome result.journal (length ports.new.items)
         (λ world. All (λ p. Holds world result.outcome (M.Port.Files.told p) (M.Port.Files.gone p) (M.Port.Files.faults p) result.journal.entries) ports.new.items) }
     ensures words { (result.outcome ≡ OutcomeIs.CommandLine) ↔ (command (map string_bytes words.now) ≡ None) }
     ensures tells { F.told files.new ≡ F.told files.old }
@@ -117,7 +117,7 @@ pub fn workerd<R: Threads + Wait + Sync, F: Files, M: Maker, K: Sink, G: Gate>(
     out: &mut K,
     _gate: &G,
 ) -> Ended<M::Port>
-    ensures ends { Ends (map string_bytes words.now) (F.told files.old).files (RoseIn ReadFile (F.faults files.old) (F.faults files.new)) (Rose (M.failures maker.old) (M.failures maker.new)) (K.held out.old) (K.held out.new) (K.failures out.old) (K.failures out.new) result.status result.journal (length result.ports.items)
+    ensures ends { Ends (record { words = map string_bytes words.now; files = (F.told files.old).files; read_failed = RoseIn ReadFile (F.faults files.old) (F.faults files.new); maker_failed = Rose (M.failures maker.old) (M.failures maker.new) }) (record { before = K.held out.old; after = K.held out.new; failures_before = K.failures out.old; failures_after = K.failures out.new }) result.status result.journal (length result.ports.items)
         (λ o world. All (λ p. Holds world o (M.Port.Files.told p) (M.Port.Files.gone p) (M.Port.Files.faults p) result.journal.entries) result.ports.items) }
     ensures status { IfSome (F.told files.old).files (λ s. IsStatus (map string_bytes words.now) s (RoseIn ReadFile (F.faults files.old) (F.faults files.new)) (Rose (K.failures out.old) (K.failures out.new)) result.status) }
     ensures words { command (map string_bytes words.now) ≡ None → (result.status ≡ 1) ⊎ (((result.status ≡ 4) × Rose (K.failures out.old) (K.failures out.new)) ⊎ (result.status ≡ 9)) }
