@@ -30,7 +30,8 @@ use Rattle.wd_machine.specs.Runs.{legal_from, after, after_from}
 use Rattle.wd_machine.specs.Steps.{step, begun, turned, turn_out}
 use Rattle.wd_top.specs.declared.board.Answer.{Answer}
 use Rattle.wd_top.specs.Board.{the_seat, AreEnded, AreIdle, IsOver, has_ended, reply_in, IsRun, Rests, Stands, Ends}
-use Rattle.wd_top.specs.Talk.{talk, asked_row, add_row, with_reply, with_reply_if, IsNumbered, arrival_count, seat_of, IsOfSeat}
+use Rattle.wd_machine.specs.Entries.{seat_of}
+use Rattle.wd_top.specs.Talk.{talk, asked_row, add_row, with_reply, with_reply_if, IsNumbered, arrival_count, IsOfSeat}
 use Rattle.wd_top.specs.Session.{service_at, no_socket}
 use Rattle.wd_top.specs.Steps.{Others, Answers}
 use Rattle.wd_top.proofs.TalkSteps.{HasNext, talk_push, count_push, numbered_push, seat_push, below, reply_none, reply_last, nat_self, nat_other}
@@ -53,7 +54,7 @@ legal_from_push m opens world s (x ∷ es) e l b =
     rw h.0 (legal_from_push m opens world (step m s x) es e h.1 b)
 
 -- an entry of seat 0 that is allowed goes behind the others
-run_push : {I : Type 0} (m : Meaning I) (world : Config) (es : List Entry) (e : Entry) (s : State I) → IsRun m world es → s ≡ after m world es → broken_in true (is_open world Whole) world s e ≡ None → HasNext (arrival_count es) e → seat_of e ≡ 0 → IsRun m world (es ++ e ∷ [])
+run_push : {I : Type 0} (m : Meaning I) (world : Config) (es : List Entry) (e : Entry) (s : State I) → IsRun m world es → s ≡ after m world es → broken_in true (is_open world Whole) world s e ≡ None → HasNext (arrival_count es) e → (seat_of e).0 ≡ 0 → IsRun m world (es ++ e ∷ [])
 run_push m world es e s r is b next here = record {
   allowed = legal_from_push m (is_open world Whole) world (first_state m world) es e r.allowed (subst (λ x. broken_in true (is_open world Whole) world x e ≡ None) is b);
   numbered = numbered_push es e r.numbered next;

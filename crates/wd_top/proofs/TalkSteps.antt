@@ -7,7 +7,8 @@ use Rattle.wd_base.specs.declared.http.ReqData.{ReqData}
 use Rattle.wd_base.specs.declared.http.Reply.{Reply}
 use Rattle.wd_machine.specs.declared.journal.Entry.{Entry}
 use Rattle.wd_machine.specs.declared.journal.Entry.TheVariants.{Arrive, Begin, Turn, Answer, Served, Cancel, Drain}
-use Rattle.wd_top.specs.Talk.{Row, Talk, answered, asked_row, answered_row, add_row, with_reply, with_reply_if, came_over, talk_step, talk_from, no_talk, talk, TakesTurns, NumberedFrom, IsNumbered, arrivals_after, arrival_count, seat_of, EachOfSeat, IsOfSeat}
+use Rattle.wd_machine.specs.Entries.{seat_of}
+use Rattle.wd_top.specs.Talk.{Row, Talk, answered, asked_row, answered_row, add_row, with_reply, with_reply_if, came_over, talk_step, talk_from, no_talk, talk, TakesTurns, NumberedFrom, IsNumbered, arrivals_after, arrival_count, EachOfSeat, IsOfSeat}
 
 talk_from_push : (s n : ℕ) (t : Talk) (es : List Entry) (e : Entry) → talk_from s n t (es ++ e ∷ []) ≡ talk_step s n (talk_from s n t es) e
 talk_from_push s n t [] e = refl
@@ -81,11 +82,11 @@ pub numbered_push : (es : List Entry) (e : Entry) → IsNumbered es → HasNext 
 unfolding IsNumbered arrival_count
 numbered_push es e x h = numbered_from_push 0 es e x h
 
-each_push : (s : ℕ) (es : List Entry) (e : Entry) → EachOfSeat s es → seat_of e ≡ s → EachOfSeat s (es ++ e ∷ [])
+each_push : (s : ℕ) (es : List Entry) (e : Entry) → EachOfSeat s es → (seat_of e).0 ≡ s → EachOfSeat s (es ++ e ∷ [])
 each_push s [] e x h = (h, tt)
 each_push s (y ∷ es) e (here, x) h = (here, each_push s es e x h)
 
-pub seat_push : (s : ℕ) (es : List Entry) (e : Entry) → IsOfSeat s es → seat_of e ≡ s → IsOfSeat s (es ++ e ∷ [])
+pub seat_push : (s : ℕ) (es : List Entry) (e : Entry) → IsOfSeat s es → (seat_of e).0 ≡ s → IsOfSeat s (es ++ e ∷ [])
 unfolding IsOfSeat
 seat_push s es e x h = each_push s es e x h
 

@@ -1,5 +1,5 @@
 -- How a call comes out: its status and its text.
-use Rattle.std.specs.Prelude.{◌≡◌, ◌⊎◌, ℕ, List, [], ◌∷◌, ◌++◌, length, take, Option, codes}
+use Rattle.std.specs.Prelude.{◌≡◌, ◌⊎◌, ℕ, List, [], ◌++◌, length, take, Option, codes}
 use Rattle.std.specs.Fmt.{decimal}
 use Rattle.wd_base.specs.declared.config.Addr.{Addr}
 use Rattle.wd_base.specs.declared.ids.Seat.{Seat}
@@ -8,6 +8,7 @@ use Rattle.wd_ports.specs.Sink.{with_bytes}
 use Rattle.wd_top.specs.declared.config.ConfigFault.{ConfigFault}
 use Rattle.wd_top.specs.declared.config.ConfigKind.{ConfigKind}
 use Rattle.wd_top.specs.declared.config.ConfigKind.TheVariants.{LeftOut, EmbedMissing}
+use Rattle.wd_top.specs.Config.{line_end}
 use Rattle.wd_top.specs.declared.outcome.Outcome.{Outcome}
 use Rattle.wd_top.specs.declared.outcome.Outcome.TheVariants as outcome
 
@@ -22,10 +23,6 @@ status_of (outcome.FileFault path) = 5
 status_of (outcome.NoPort seat) = 7
 status_of (outcome.NoListen address) = 7
 status_of outcome.NoMemory = 9
-
--- a line end
-abbrev pub line_end : List ℕ
-line_end = 10 ∷ []
 
 -- the name of a kind of fault
 abbrev pub kind_text : ConfigKind → List ℕ

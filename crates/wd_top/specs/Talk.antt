@@ -8,6 +8,7 @@ use Rattle.wd_base.specs.declared.objects.Origin.{Origin}
 use Rattle.wd_base.specs.declared.objects.Origin.TheVariants.{Outside, Child, Caller}
 use Rattle.wd_machine.specs.declared.journal.Entry.{Entry}
 use Rattle.wd_machine.specs.declared.journal.Entry.TheVariants.{Arrive, Begin, Turn, Answer, Served, Cancel, Drain}
+use Rattle.wd_machine.specs.Entries.{seat_of}
 
 -- a request of the link: its number, the service that it came to, what it asks, and its reply where it has one
 pub record Row : Type 0 where
@@ -105,18 +106,9 @@ arrivals_after n (Drain seat ∷ es) = arrivals_after n es
 unfoldable pub arrival_count : List Entry → ℕ
 arrival_count journal = arrivals_after 0 journal
 
-abbrev pub seat_of : Entry → ℕ
-seat_of (Arrive seat q service origin allow request) = seat.0
-seat_of (Begin seat q) = seat.0
-seat_of (Turn seat q out) = seat.0
-seat_of (Answer seat q op result) = seat.0
-seat_of (Served seat q reply) = seat.0
-seat_of (Cancel seat q) = seat.0
-seat_of (Drain seat) = seat.0
-
 abbrev pub EachOfSeat : ℕ → List Entry → Type 0
 EachOfSeat s [] = Unit {0}
-EachOfSeat s (e ∷ es) = (seat_of e ≡ s) × EachOfSeat s es
+EachOfSeat s (e ∷ es) = ((seat_of e).0 ≡ s) × EachOfSeat s es
 
 -- each entry is of seat s
 unfoldable pub IsOfSeat : ℕ → List Entry → Type 0

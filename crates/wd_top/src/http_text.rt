@@ -1,6 +1,6 @@
 //! The replies as bytes on a link.
 ghost use Rattle.std.specs.Prelude.{◌≡◌, ◌++◌, IfOk, OnOk, flat_map, false, true, codes, decimal};
-ghost use Rattle.wd_top.specs.Text.{line_end, phrase_of, is_own_field, field_line, kept_line, status_line, length_line, close_line, reply_text, sent_body, bad_reply};
+ghost use Rattle.wd_top.specs.Text.{crlf, phrase_of, is_own_field, field_line, kept_line, status_line, length_line, close_line, reply_text, sent_body, bad_reply};
 
 use http::StatusCode;
 use std::alloc::Global;
@@ -127,7 +127,7 @@ fn push_length(alloc: Global, text: &mut Vec<u8>, status: u16, size: usize) -> R
 }
 
 fn push_stated(alloc: Global, text: &mut Vec<u8>, size: usize) -> Result<(), NoMemory>
-    ensures { OnOk result (text.new.items ≡ text.old.items ++ (codes "content-length: " ++ (decimal size ++ line_end))) }
+    ensures { OnOk result (text.new.items ≡ text.old.items ++ (codes "content-length: " ++ (decimal size ++ crlf))) }
 {
     text.extend_from_slice(b"content-length: ")?;
     text.extend_from_slice(size.to_string(alloc)?.as_str().as_bytes())?;
