@@ -1,0 +1,5 @@
+pub mod CutSteps
+pub mod DateSteps
+pub mod Exact
+pub mod NumberSteps
+pub mod RangeSteps

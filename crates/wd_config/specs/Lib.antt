@@ -1,0 +1,4 @@
+pub mod Cut
+pub mod Dates
+pub mod Numbers
+pub mod Ranges
