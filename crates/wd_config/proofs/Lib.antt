@@ -1,3 +1,4 @@
+pub mod AddressSteps
 pub mod CutSteps
 pub mod DateSteps
 pub mod Exact

@@ -66,6 +66,16 @@ digits_lack mark (x ∷ xs) low d =
 pub number_lacks : (mark n : ℕ) → mark < 48 → n < 2 ^ 32 → Lacks mark (decimal n)
 number_lacks mark n low small = digits_lack mark (decimal n) low (decimal_is_IsNumeral n (omega arith)).0.1
 
+above_lacks : (text : List ℕ) → AllDigits 10 text → Lacks 58 text
+above_lacks [] d = All-nil (IsNot 58)
+above_lacks (x ∷ xs) d =
+    let k : (48 ≤ x) × (x ≤ 57) = digit_from_value x d.0 in
+    let most : x ≤ 57 = k.1 in
+    All-cons (IsNot 58) x xs (λ e. let f : x ≡ 58 = e in omega arith) (above_lacks xs d.1)
+
+pub colon_lacks : (n : ℕ) → n < 2 ^ 32 → Lacks 58 (decimal n)
+colon_lacks n small = above_lacks (decimal n) (decimal_is_IsNumeral n (omega arith)).0.1
+
 -- one number is written so
 pub same_number : (n m : ℕ) → n < 2 ^ 32 → m < 2 ^ 32 → decimal n ≡ decimal m → n ≡ m
 same_number n m a b e = decimal_injective n m (omega arith) (omega arith) e

@@ -1,6 +1,6 @@
-use crate::{is_date, range};
+use crate::{external_address, is_date, range, socket_address};
 use std::test::Fail;
-use wd_base::{Ip4, Range, RangeClass};
+use wd_base::{Addr, Ip4, Range, RangeClass};
 
 fn named(class: RangeClass) -> Option<Range> {
     Some(Range {
@@ -47,6 +47,43 @@ fn dates_and_ranges_are_read(rt: HostRuntime) -> Result<(), Fail> {
     ];
     for (text, want) in ranges {
         assert_eq!(rt; range(text), want, "{text:?}");
+    }
+    Ok(())
+}
+
+fn told(found: &Option<Addr>) -> Option<(&[u8], u16)> {
+    match found {
+        Some(address) => Some((address.host.as_slice(), address.port)),
+        None => None,
+    }
+}
+
+#[test]
+fn addresses_are_read(rt: HostRuntime) -> Result<(), Fail> {
+    let rows: [(&[u8], Option<(&[u8], u16)>, Option<(&[u8], u16)>); 9] = [
+        (b"*:8080", Some((b"*", 8080)), None),
+        (
+            b"localhost:1",
+            Some((b"localhost", 1)),
+            Some((b"localhost", 1)),
+        ),
+        (
+            b"127.0.0.1:65535",
+            Some((b"127.0.0.1", 65535)),
+            Some((b"127.0.0.1", 65535)),
+        ),
+        (b"a-b.example:8", None, Some((b"a-b.example", 8))),
+        (b"a..b", None, Some((b"a..b", 80))),
+        (b"localhost:0", None, None),
+        (b"localhost:65536", None, None),
+        (b"localhost:080", None, None),
+        (b":80", None, None),
+    ];
+    for (text, socket, external) in rows {
+        let found = socket_address(rt.alloc(), text)?;
+        assert_eq!(rt; told(&found), socket, "{text:?}");
+        let found = external_address(rt.alloc(), text)?;
+        assert_eq!(rt; told(&found), external, "{text:?}");
     }
     Ok(())
 }
