@@ -1,0 +1,4 @@
+pub mod Back
+pub mod UnitLemmas
+pub mod LetterLemmas
+pub mod ScanLemmas

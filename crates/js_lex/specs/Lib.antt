@@ -1,0 +1,6 @@
+pub mod Tables
+pub mod Units
+pub mod Letters
+pub mod Front
+pub mod Lexed
+pub mod Scan

@@ -1,0 +1,15 @@
+//! The tokens of a script, after ECMA-262, section 12. `docs/SCRIPTS.md` describes them.
+#![tactic(auto)]
+
+mod front;
+mod letters;
+mod scan;
+mod stack;
+mod tables;
+mod token;
+mod units;
+
+pub use scan::lex;
+pub use token::{
+    Punctuator, Reserved, ScriptFault, ScriptKind, TemplatePart, Token, TokenKind, Tokens,
+};
