@@ -1,9 +1,9 @@
 -- Digits and words.
-use Rattle.std.proofs.Common.{◌≡◌, ℕ, ◌+◌, ◌*◌, ◌≤◌, ◌<◌, Bool, true, false, cond, List, [], ◌∷◌, Option, Some, None, refl, ap, ◌∙◌, sym, arith}
+use Rattle.std.proofs.Common.{◌≡◌, ℕ, ◌+◌, ◌*◌, ◌≤◌, ◌<◌, Bool, cond, [], ◌∷◌, Some, None, ap, sym, arith}
 use Rattle.std.proofs.Math.Nat.{le-mul_of_pos_right}
 use Rattle.std.proofs.lemmas.Bool.{lt-leb}
-use Rattle.std.specs.Prelude.{nat_le, length, slice_index}
-use Rattle.js_lex.specs.Units.{Text, digit_of, value, at_most, numeral}
+use Rattle.std.specs.Prelude.{length, slice_index}
+use Rattle.js_lex.specs.Units.{Text, digit_of, value, numeral}
 
 -- more digits make no number smaller
 pub grows : (base : ℕ) (ds : Text) (n : ℕ) → 1 ≤ base → n ≤ value base n ds

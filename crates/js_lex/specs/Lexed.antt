@@ -1,5 +1,5 @@
 -- The tokens of a script (ECMA-262, section 12).
-use Rattle.std.specs.Prelude.{ℕ, zero, suc, ◌+◌, Bool, true, false, ◌||◌, List, [], ◌∷◌, drop, codes, Option, Some, None, slice_get}
+use Rattle.std.specs.Prelude.{ℕ, zero, suc, ◌+◌, Bool, true, false, ◌||◌, List, [], ◌∷◌, drop, codes, Option, Some, slice_get}
 use Rattle.js_lex.specs.declared.token.TokenKind.{TokenKind}
 use Rattle.js_lex.specs.declared.token.TokenKind.TheVariants as tok
 use Rattle.js_lex.specs.declared.token.Token.{Token}

@@ -1,5 +1,5 @@
 -- What the tokens of a text are built by.
-use Rattle.std.specs.Prelude.{ℕ, ◌+◌, Bool, false, ◌||◌, List, [], ◌∷◌, ◌++◌}
+use Rattle.std.specs.Prelude.{◌+◌, false, ◌||◌, [], ◌∷◌, ◌++◌}
 use Rattle.js_lex.specs.declared.token.TokenKind.TheVariants as tok
 use Rattle.js_lex.specs.declared.scan.State.{State}
 use Rattle.js_lex.specs.declared.scan.Step.{Step}

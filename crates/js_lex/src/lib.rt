@@ -6,6 +6,8 @@ mod letters;
 mod scan;
 mod stack;
 mod tables;
+#[cfg(test)]
+mod tests;
 mod token;
 mod units;
 

@@ -5,9 +5,7 @@ ghost use Rattle.js_lex.specs.Scan.{taken};
 
 use crate::front::{Front, Unread, front_of, more_units};
 use crate::stack::Stack;
-use crate::token::{
-    Punctuator, ScriptFault, ScriptKind, TemplatePart, Token, TokenKind, Tokens,
-};
+use crate::token::{Punctuator, ScriptFault, ScriptKind, TemplatePart, Token, TokenKind, Tokens};
 use std::alloc::Global;
 use wd_base::{NoMemory, Seq, Units};
 
@@ -61,6 +59,7 @@ fn braces_behind(kind: &TokenKind, braces: Braces) -> Result<Braces, NoMemory>
 }
 
 const NUMBER: [u16; 6] = [110, 117, 109, 98, 101, 114];
+
 const IDENTIFIER: [u16; 10] = [105, 100, 101, 110, 116, 105, 102, 105, 101, 114];
 
 fn fault(alloc: Global, place: usize, why: Unread) -> Result<ScriptFault, NoMemory>
@@ -163,7 +162,12 @@ fn scan(alloc: Global, mut text: &[u16]) -> Result<Tokens, NoMemory>
             Step::Stop(tokens) => return Ok(tokens),
         }
     }
-    with_token(state.tokens, state.place, state.after_line_end, TokenKind::End)
+    with_token(
+        state.tokens,
+        state.place,
+        state.after_line_end,
+        TokenKind::End,
+    )
 }
 
 /// The tokens of a script: the longest one at each place, up to `End`, or up to `Bad` at the first

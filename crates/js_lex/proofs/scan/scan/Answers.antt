@@ -18,9 +18,10 @@ loop-text-preserved c =
     let h : taken s f ≡ step.Next n = sym c.in_ok-next.ensures ∙ c.in-Next.is in
     let fits : more_units f ≤ length (drop 1 z) = subst (λ (r : List ℕ). more_units f ≤ length r) (take_rest z 1) c.in_ok-front.ensures.fits in
     let some = c.in-len1-up.len_at_least in
-    let k : 1 + more_units f ≤ length z = omega (arith, fits, length-drop 1 z, some) in
-    (rw (take_rest z (1 + c.more_units-more.result), c.more_units-more.ensures) (goes s n f z (tokens_of c.args.text.now) some e h c.loop-text.invariant.0),
-     rw (take_rest z (1 + c.more_units-more.result), c.more_units-more.ensures) (goes_place s n f z (length c.args.text.now) k h c.loop-text.invariant.1))
+    let k : 1 + more_units f ≤ length z = omega (arith, fits, length-drop 1 z, some) in (
+      rw (take_rest z (1 + c.more_units-more.result), c.more_units-more.ensures) (goes s n f z (tokens_of c.args.text.now) some e h c.loop-text.invariant.0),
+      rw (take_rest z (1 + c.more_units-more.result), c.more_units-more.ensures) (goes_place s n f z (length c.args.text.now) k h c.loop-text.invariant.1),
+    )
 
 pub returns-in-Stop : goal.returns-in-Stop
 returns-in-Stop c =

@@ -1,4 +1,3 @@
-use Rattle.std.proofs.Common.{rules}
 use Rattle.js_lex.proofs.UnitLemmas.{too_large}
 use Rattle.js_lex.proofs.units.numeral.Goals as goal
 
