@@ -50,7 +50,7 @@ fn token(
 ) -> Result<Option<(Told, usize, bool)>, NoMemory> {
     let tokens = tokens(alloc, script)?;
     match tokens.get(number) {
-        Some(token) => Ok(Some((told(&token.kind), token.place, token.after_line_end))),
+        Some(token) => Ok(Some((in_short(&token.kind), token.place, token.after_line_end))),
         None => Ok(None),
     }
 }
