@@ -46,7 +46,8 @@ pub fn more_units(front: &Front) -> usize
 /// The largest safe integer, 2^53 - 1.
 const MAX_SAFE: u64 = 9007199254740991;
 
-fn same_text(text: &[u16], word: &[u8]) -> bool
+/// The text's units are the bytes of an ASCII word, as those of `async` or `of`.
+pub fn same_text(text: &[u16], word: &[u8]) -> bool
     ensures { result ≡ spec.same_text text.now word.now }
 {
     begins(text, word) && text.len() == word.len()

@@ -11,6 +11,7 @@ mod tests;
 mod token;
 mod units;
 
+pub use front::same_text;
 pub use scan::lex;
 pub use token::{
     Punctuator, Reserved, ScriptFault, ScriptKind, TemplatePart, Token, TokenKind, Tokens,

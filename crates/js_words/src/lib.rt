@@ -1,0 +1,8 @@
+//! The strengths of a script's binary operators, and the words of ECMA-262 that scripts have not.
+#![tactic(auto)]
+
+mod word;
+mod words;
+
+pub use word::{Spot, Word};
+pub use words::{strength, word_of};
