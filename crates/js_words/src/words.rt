@@ -1,4 +1,4 @@
-ghost use Rattle.std.specs.Prelude.{◌≡◌, slice_get};
+ghost use Rattle.std.specs.Prelude.{◌≡◌, ◌+◌, slice_get};
 ghost use Rattle.std.specs.Option.{option_copied};
 ghost use Rattle.js_words.specs.Words as spec;
 
@@ -13,7 +13,8 @@ fn sign_strength(sign: Punctuator) -> Option<u8>
         Punctuator::QuestionQuestion | Punctuator::OrOr => Some(1),
         Punctuator::AndAnd => Some(2),
         Punctuator::Identical | Punctuator::NotIdentical => Some(3),
-        Punctuator::Less | Punctuator::LessEqual | Punctuator::Greater | Punctuator::GreaterEqual => Some(4),
+        Punctuator::Less | Punctuator::LessEqual | Punctuator::Greater | Punctuator::GreaterEqual =>
+            Some(4),
         Punctuator::Plus | Punctuator::Minus => Some(5),
         Punctuator::Star | Punctuator::Slash | Punctuator::Percent => Some(6),
         _ => None,
@@ -215,7 +216,7 @@ fn name_word(spot: Spot, name: &Units, next: &TokenKind) -> Option<Word>
 }
 
 fn word_before(spot: Spot, kind: &TokenKind, next: Option<&Token>) -> Option<Word>
-    ensures { result ≡ spec.word_before spot kind.now (option_copied next) }
+    ensures { result ≡ spec.word_before spot kind.now (option_copied next.entry) }
 {
     match kind {
         TokenKind::Reserved(word) => reserved_word(*word),
@@ -228,13 +229,25 @@ fn word_before(spot: Spot, kind: &TokenKind, next: Option<&Token>) -> Option<Wor
     }
 }
 
+/// The token behind the one at a place.
+#[tactic(auto, using(crate::proofs::Places::none_behind))]
+fn token_behind(tokens: &Tokens, at: usize) -> Option<&Token>
+    ensures { option_copied result ≡ slice_get tokens.now (at + 1) }
+{
+    if at < tokens.len() {
+        tokens.get(at + 1)
+    } else {
+        None
+    }
+}
+
 /// The word or form that scripts have not, of the token at a place in the list: what stands there
 /// says the spot. None where the token has none, and where it is `Bad`, which carries its own fault.
 pub fn word_of(tokens: &Tokens, at: usize, spot: Spot) -> Option<Word>
     ensures { result ≡ spec.word_of tokens.now at spot }
 {
     match tokens.get(at) {
-        Some(token) => word_before(spot, &token.kind, tokens.get(at.saturating_add(1))),
+        Some(token) => word_before(spot, &token.kind, token_behind(tokens, at)),
         None => None,
     }
 }
