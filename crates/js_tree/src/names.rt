@@ -58,9 +58,9 @@ impl Expr {
         ensures { result ≡ spec.target_of self }
     {
         match self {
-            Expr::Name(name) => Ok(Target::Name(name)),
-            Expr::Member(object, name) => Ok(Target::Member(object, name)),
-            Expr::Index(object, key) => Ok(Target::Index(object, key)),
+            Expr::Name(name) => Ok(Target::Variable(name)),
+            Expr::Member(object, name) => Ok(Target::Field(object, name)),
+            Expr::Index(object, key) => Ok(Target::Item(object, key)),
             other => Err(other),
         }
     }

@@ -88,11 +88,12 @@ pub enum DeclareKind {
 #[derive(Debug, Drop)]
 #[cycle(tree)]
 pub enum Target {
-    Name(Name),
+    /// a name
+    Variable(Name),
     /// `object.name`
-    Member(Boxed<Expr>, Name),
+    Field(Boxed<Expr>, Name),
     /// `object[key]`
-    Index(Boxed<Expr>, Boxed<Expr>),
+    Item(Boxed<Expr>, Boxed<Expr>),
 }
 
 /// A key of an object literal.
@@ -110,7 +111,7 @@ pub enum Key {
 #[cycle(tree)]
 pub enum Property {
     /// `key: value`
-    Value(Key, Expr),
+    Pair(Key, Expr),
     /// `name`
     Short(Name),
     /// `key(parameters) {}` and `async key(parameters) {}`
@@ -130,7 +131,9 @@ pub struct Function {
 #[derive(Debug, Drop)]
 #[cycle(tree)]
 pub enum ArrowBody {
-    Block(Seq<Stmt>),
+    /// the statements between braces
+    Statements(Seq<Stmt>),
+    /// an expression, whose value is returned
     Value(Boxed<Expr>),
 }
 
@@ -200,8 +203,8 @@ pub struct Declaration {
 #[cycle(tree)]
 pub enum ForBegin {
     Nothing,
-    Declare(DeclareKind, Seq<Declaration>),
-    Value(Expr),
+    Declarations(DeclareKind, Seq<Declaration>),
+    Start(Expr),
 }
 
 /// The part of a `try` for what was thrown: its name, where it has one, and its block.
@@ -217,7 +220,7 @@ pub struct Catch {
 #[cycle(tree)]
 pub enum Stmt {
     Declare(DeclareKind, Seq<Declaration>),
-    Function(Name, Function),
+    DeclareFunction(Name, Function),
     Block(Seq<Stmt>),
     /// `if (test) yes else no`
     If(Expr, Boxed<Stmt>, Option<Boxed<Stmt>>),
