@@ -1,5 +1,5 @@
 -- The strengths of binary operators, and the words and forms of ECMA-262 that scripts have not.
-use Rattle.std.specs.Prelude.{ℕ, ◌+◌, Bool, true, false, cond, List, [], ◌∷◌, codes, slice_get, Option, Some, None}
+use Rattle.std.specs.Prelude.{ℕ, ◌+◌, Bool, true, false, cond, List, codes, slice_get, Option, Some, None}
 use Rattle.js_lex.specs.declared.token.Punctuator.{Punctuator}
 use Rattle.js_lex.specs.declared.token.Punctuator.TheVariants as p
 use Rattle.js_lex.specs.declared.token.Reserved.{Reserved}
