@@ -3,4 +3,5 @@ pub mod Units
 pub mod Letters
 pub mod Front
 pub mod Lexed
+pub mod Grammar
 pub mod Scan
