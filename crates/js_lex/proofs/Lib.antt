@@ -4,3 +4,4 @@ pub mod LetterLemmas
 pub mod ScanLemmas
 pub mod Tests
 pub mod Which
+pub mod Runs

@@ -1,13 +1,19 @@
 -- The elements of a script's text (ECMA-262, section 12): what each one is, and which one a text has at its front.
-use Rattle.std.specs.Prelude.{◌≡◌, ◌≤◌, ◌<◌, ℕ, ◌+◌, Bool, true, false, not, ◌||◌, ◌==◌, List, [], ◌∷◌, ◌++◌, ◌⊎◌, length, flat_map}
+use Rattle.std.specs.Prelude.{◌≡◌, ◌≤◌, ◌<◌, ℕ, ◌+◌, Bool, true, false, not, ◌||◌, ◌==◌, List, [], ◌∷◌, ◌++◌, ◌⊎◌, length, flat_map, Option, Some, None}
+use Rattle.js_lex.specs.declared.token.TokenKind.{TokenKind}
+use Rattle.js_lex.specs.declared.token.TokenKind.TheVariants as tok
+use Rattle.js_lex.specs.declared.token.Reserved.{Reserved}
 use Rattle.js_lex.specs.declared.token.Punctuator.{Punctuator}
+use Rattle.js_lex.specs.declared.front.Unread.{Unread}
+use Rattle.js_lex.specs.declared.front.Unread.TheVariants as bad
 use Rattle.js_lex.specs.declared.letters.Quote.{Quote}
 use Rattle.js_lex.specs.declared.letters.Quote.TheVariants as quote
 use Rattle.js_lex.specs.declared.letters.Ending.{Ending}
 use Rattle.js_lex.specs.declared.letters.Ending.TheVariants as ending
-use Rattle.js_lex.specs.Tables.{punctuators}
-use Rattle.js_lex.specs.Units.{Text, is_line_end, is_white, is_digit, is_hex, is_name, is_between, digit_of, value}
+use Rattle.js_lex.specs.Tables.{reserved_words, punctuators}
+use Rattle.js_lex.specs.Units.{Text, is_line_end, is_white, is_digit, is_hex, is_name, is_part, is_between, value}
 use Rattle.js_lex.specs.Letters.{meant, encoded, escaped}
+use Rattle.js_lex.specs.Front.{max_safe, part_of}
 
 abbrev pub Passes : (ℕ → Bool) → ℕ → Type 0
 Passes f u = f u ≡ true
@@ -272,3 +278,57 @@ pub record Begins (h : Bool) (text : Text) (e : Element) (rest : Text) : Type 0 
 -- No element stands at the text's front.
 abbrev pub BeginsNone : Bool → Text → Type 0
 BeginsNone h text = (f : Element) (more : Text) → Stands h f more → text ≡ units f ++ more → ⊥
+
+-- ---- what an element is read as
+
+pub data Reading : Type 0 where
+  -- no token; `true` where a line end stands in it
+  Gap : Bool → Reading
+  Token : TokenKind → Reading
+  Refused : Unread → Reading
+
+-- some unit passes
+abbrev pub some : (ℕ → Bool) → Text → Bool
+some f [] = false
+some f (u ∷ z) = f u || some f z
+
+-- section 12.7.2: a reserved word, or else a name
+abbrev pub IsKind : Text → TokenKind → Type 0
+IsKind w k = ((r : Reserved) × In (w, r) reserved_words × (k ≡ tok.Reserved r)) ⊎ (((r : Reserved) → In (w, r) reserved_words → ⊥) × (k ≡ tok.Name w))
+
+abbrev pub IsAscii : Text → Type 0
+IsAscii w = Every (Passes is_part) w
+
+-- a name of ASCII alone is read
+abbrev pub ReadsWord : Text → Reading → Type 0
+ReadsWord w r = (IsAscii w × ((k : TokenKind) × IsKind w k × (r ≡ Token k))) ⊎ ((IsAscii w → ⊥) × (r ≡ Refused bad.Identifier))
+
+-- section 12.9.3.3, MV, of the numbers that are read: integers without `n`
+abbrev pub number_value : Number → Option ℕ
+number_value (Integer ds) = Some (value 10 0 ds)
+number_value (Based r m ds) = Some (value (radix_value r) 0 ds)
+number_value _ = None
+
+-- a safe integer is read
+abbrev pub ReadsValue : Option ℕ → Reading → Type 0
+ReadsValue None r = r ≡ Refused bad.Number
+ReadsValue (Some v) r = ((v ≤ max_safe) × (r ≡ Token (tok.Number v))) ⊎ ((max_safe < v) × (r ≡ Refused bad.Number))
+
+-- neither a digit nor a name may stand directly behind a number
+abbrev pub ReadsNumber : Number → Text → Reading → Type 0
+ReadsNumber n z r = (NotNext is_name z × ReadsValue (number_value n) r) ⊎ ((NotNext is_name z → ⊥) × (r ≡ Refused bad.Syntax))
+
+abbrev pub characters_value : List Character → List ℕ
+characters_value cs = flat_map character_value cs
+
+-- The element, with this text behind it, is read so.
+abbrev pub Reads : Element → Text → Reading → Type 0
+Reads (White u) z r = r ≡ Gap false
+Reads (LineEnd u) z r = r ≡ Gap true
+Reads (LineComment w) z r = r ≡ Gap false
+Reads (BlockComment w) z r = r ≡ Gap (some is_line_end w)
+Reads (Word u w) z r = ReadsWord (u ∷ w) r
+Reads (Numeric n) z r = ReadsNumber n z r
+Reads (String d cs) z r = r ≡ Token (tok.Text (characters_value cs))
+Reads (Part b cs e) z r = r ≡ Token (tok.Template (part_of b e) (characters_value cs))
+Reads (Sign w p) z r = r ≡ Token (tok.Punctuator p)
