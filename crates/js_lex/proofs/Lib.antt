@@ -5,3 +5,5 @@ pub mod ScanLemmas
 pub mod Tests
 pub mod Which
 pub mod Runs
+pub mod Longest
+pub mod Words
