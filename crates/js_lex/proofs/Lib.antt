@@ -7,3 +7,4 @@ pub mod Which
 pub mod Runs
 pub mod Longest
 pub mod Words
+pub mod Signs
