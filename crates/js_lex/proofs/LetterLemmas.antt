@@ -11,7 +11,7 @@ use Rattle.js_lex.specs.declared.letters.Body.{Body}
 use Rattle.js_lex.specs.Units.{Text}
 use Rattle.js_lex.specs.Letters.{body_of, after, joined, meant, next_of, ending_units}
 
-body_drop : (q : Quote) (n : ℕ) (z : Text) → body_of q n z ≡ body_of q 0 (drop n z)
+pub body_drop : (q : Quote) (n : ℕ) (z : Text) → body_of q n z ≡ body_of q 0 (drop n z)
 body_drop q zero z = refl
 body_drop q (suc n) [] = refl
 body_drop q (suc n) (u ∷ z) = body_drop q n z

@@ -8,3 +8,4 @@ pub mod Runs
 pub mod Longest
 pub mod Words
 pub mod Signs
+pub mod Characters
