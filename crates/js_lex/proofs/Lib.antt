@@ -9,3 +9,4 @@ pub mod Longest
 pub mod Words
 pub mod Signs
 pub mod Characters
+pub mod Literals
