@@ -10,3 +10,4 @@ pub mod Words
 pub mod Signs
 pub mod Characters
 pub mod Literals
+pub mod Comments

@@ -16,7 +16,7 @@ use Rattle.js_lex.proofs.Tests.{cond_yes, cond_no, either, and_first, and_second
 use Rattle.js_lex.proofs.Words.{begins_self}
 use Rattle.js_lex.proofs.Longest.{Found, FrontIs}
 
-abbrev Row : Type 0
+abbrev pub Row : Type 0
 Row = Text × Punctuator
 
 -- ---- fronts of a text
