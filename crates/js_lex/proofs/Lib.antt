@@ -11,3 +11,4 @@ pub mod Signs
 pub mod Characters
 pub mod Literals
 pub mod Comments
+pub mod Fronts

@@ -24,7 +24,7 @@ record Quoted (q : Quote) (z : Text) (n : ℕ) : Type 0 where
   whole : body_of q 0 z ≡ Some (body chars end)
   size : n ≡ 1 + (length (characters_units chars) + ending_units end)
 
-end_size : (q : Quote) (e : Ending) → MayEnd q e → length (ending_text q e) ≡ ending_units e
+pub end_size : (q : Quote) (e : Ending) → MayEnd q e → length (ending_text q e) ≡ ending_units e
 end_size q ending.Closed h = refl
 end_size q ending.Hole h = refl
 

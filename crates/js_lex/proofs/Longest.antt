@@ -5,7 +5,7 @@ use Rattle.js_lex.specs.declared.front.Front.{Front}
 use Rattle.js_lex.specs.declared.front.Front.TheVariants as front
 use Rattle.js_lex.specs.declared.front.Unread.TheVariants as bad
 use Rattle.js_lex.specs.Units.{Text, is_line_end, is_white}
-use Rattle.js_lex.specs.Grammar.{Number, Integer, Based, Fraction, Point, Scaled, Big, BigBased, Element, White, LineEnd, LineComment, BlockComment, Word, Numeric, String, Part, Sign, units, Stands, IsLongest, Begins, BeginsNone, Reading, Gap, Token, Refused, Reads}
+use Rattle.js_lex.specs.Grammar.{Number, Decimal, Based, Point, Big, Element, White, LineEnd, LineComment, BlockComment, Word, Numeric, String, Part, Sign, units, Stands, IsLongest, Begins, BeginsNone, Reading, Gap, Token, Refused, Reads}
 use Rattle.js_lex.proofs.Tests.{cond_yes, cond_no}
 use Rattle.js_lex.proofs.Which.{Which, AtLineEnd, AtWhite, AtString, AtPart, AtNumber, AtName, AtPoint, AtSlash, AtSign, which, which_of, which_sign, which_number, which_word, sort, sorted}
 
@@ -41,13 +41,10 @@ pub sign_sort : (P : Which → Type 0) → P AtPoint → P AtSlash → P AtSign 
 sign_sort P a b c u z = cond_case P _ _ _ a (cond_case P _ _ _ b c)
 
 pub number_sort : (P : Which → Type 0) → P AtNumber → P AtPoint → (n : Number) → P (which_number n)
-number_sort P a b (Integer ds) = a
-number_sort P a b (Based r m ds) = a
-number_sort P a b (Fraction ds fs e) = a
+number_sort P a b (Decimal ds f e) = a
 number_sort P a b (Point fs e) = b
-number_sort P a b (Scaled ds e) = a
 number_sort P a b (Big ds) = a
-number_sort P a b (BigBased r m ds) = a
+number_sort P a b (Based r m ds x) = a
 
 pub word_sort : (P : Which → Type 0) → P AtPoint → P AtSlash → P AtSign → (w z : Text) → P (which_word w z)
 word_sort P a b c w z = sign_sort P a b c (slice_index w 0) (drop 1 (w ++ z))

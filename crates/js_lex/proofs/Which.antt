@@ -10,7 +10,7 @@ use Rattle.js_lex.specs.Tables.{punctuators}
 use Rattle.js_lex.specs.Units.{Text, is_line_end, is_white, is_digit, is_name}
 use Rattle.js_lex.specs.Front as code
 use Rattle.js_lex.specs.declared.front.Front.TheVariants as front
-use Rattle.js_lex.specs.Grammar.{In, Every, Passes, IsInteger, Number, Integer, Based, Fraction, Point, Scaled, Big, BigBased, Element, White, LineEnd, LineComment, BlockComment, Word, Numeric, String, Part, Sign, units, number_units, exponent_units, characters_units, ending_text, string_quote, part_begin, mark, IsNumber, Stands, MayFollow}
+use Rattle.js_lex.specs.Grammar.{In, Every, Passes, IsInteger, Number, Decimal, Based, Point, Big, Element, White, LineEnd, LineComment, BlockComment, Word, Numeric, String, Part, Sign, units, number_units, exponent_units, characters_units, ending_text, string_quote, part_begin, mark, IsNumber, Stands, MayFollow}
 use Rattle.js_lex.proofs.Tests.{cond_yes, cond_no, cond_ap, or_no, or_first, or_second, or_split, and_first, and_second, and_both, and_no_first, and_no_second, not_yes, apart, name_no_white, name_no_line_end, white_no_line_end, digit_name, all_of, in_all}
 
 pub data Which : Type 0 where
@@ -99,10 +99,6 @@ at_word h u z d k = at_name h u z k ∙ cond_no _ _ _ d ∙ cond_yes _ _ _ k
 at_digit : (h : Bool) (u : ℕ) (z : Text) → is_digit u ≡ true → which h u z ≡ AtNumber
 at_digit h u z k = at_name h u z (digit_name u k) ∙ cond_yes _ _ _ k
 
-at_integer : (h : Bool) (ds z : Text) → IsInteger ds → which_of h (ds ++ z) ≡ Some AtNumber
-at_integer h [] z i = absurd i
-at_integer h (d ∷ ds) z i = ap Some (at_digit h d (ds ++ z) i.0)
-
 at_integer_with : (h : Bool) (ds x z : Text) → IsInteger ds → which_of h ((ds ++ x) ++ z) ≡ Some AtNumber
 at_integer_with h [] x z i = absurd i
 at_integer_with h (d ∷ ds) x z i = ap Some (at_digit h d ((ds ++ x) ++ z) i.0)
@@ -160,13 +156,10 @@ at_string h true z = refl
 at_string h false z = refl
 
 at_numeral : (h : Bool) (n : Number) (z : Text) → IsNumber n → which_of h (number_units n ++ z) ≡ Some (which_number n)
-at_numeral h (Integer ds) z i = at_integer h ds z i
-at_numeral h (Based r m ds) z i = refl
-at_numeral h (Fraction ds fs e) z i = at_integer_with h ds _ z i.0
+at_numeral h (Decimal ds f e) z i = at_integer_with h ds _ z i.0
 at_numeral h (Point fs e) z i = at_point h fs (exponent_units e) z i.0.0 i.0.1
-at_numeral h (Scaled ds e) z i = at_integer_with h ds _ z i.0
 at_numeral h (Big ds) z i = at_integer_with h ds _ z i
-at_numeral h (BigBased r m ds) z i = refl
+at_numeral h (Based r m ds b) z i = refl
 
 pub sorted : (h : Bool) (f : Element) (z : Text) → Stands h f z → which_of h (units f ++ z) ≡ Some (sort f z)
 sorted h (White u) z s = ap Some (cond_no _ _ _ (white_no_line_end u s) ∙ cond_yes _ _ _ s)

@@ -2,6 +2,8 @@
 use Rattle.std.specs.Prelude.{◌≡◌, ◌≤◌, ◌<◌, ℕ, ◌+◌, Bool, true, false, not, ◌||◌, ◌==◌, List, [], ◌∷◌, ◌++◌, ◌⊎◌, length, flat_map, Option, Some, None}
 use Rattle.js_lex.specs.declared.token.TokenKind.{TokenKind}
 use Rattle.js_lex.specs.declared.token.TokenKind.TheVariants as tok
+use Rattle.js_lex.specs.declared.token.Token.{Token as Placed}
+use Rattle.js_lex.specs.declared.scan.Brace.{Brace}
 use Rattle.js_lex.specs.declared.token.Reserved.{Reserved}
 use Rattle.js_lex.specs.declared.token.Punctuator.{Punctuator}
 use Rattle.js_lex.specs.declared.front.Unread.{Unread}
@@ -14,6 +16,7 @@ use Rattle.js_lex.specs.Tables.{reserved_words, punctuators}
 use Rattle.js_lex.specs.Units.{Text, is_line_end, is_white, is_digit, is_hex, is_name, is_part, is_between, value}
 use Rattle.js_lex.specs.Letters.{meant, encoded, escaped}
 use Rattle.js_lex.specs.Front.{max_safe, part_of}
+use Rattle.js_lex.specs.Lexed.{in_hole, braces, fault, token}
 
 abbrev pub Passes : (ℕ → Bool) → ℕ → Type 0
 Passes f u = f u ≡ true
@@ -90,40 +93,44 @@ abbrev pub IsExponent : Exponent → Type 0
 IsExponent NoExponent = Unit {0}
 IsExponent (Exponential e s ds) = ((e == 101 || e == 69) ≡ true) × In s ([] ∷ (43 ∷ []) ∷ (45 ∷ []) ∷ []) × Digits is_digit ds
 
+-- `.` and digits, perhaps none; or nothing
+pub data Fraction : Type 0 where
+  NoFraction : Fraction
+  Fractional : Text → Fraction
+
+abbrev pub fraction_units : Fraction → Text
+fraction_units NoFraction = []
+fraction_units (Fractional fs) = 46 ∷ fs
+
+abbrev pub IsFraction : Fraction → Type 0
+IsFraction NoFraction = Unit {0}
+IsFraction (Fractional fs) = Every (Passes is_digit) fs
+
 pub data Number : Type 0 where
-  Integer : Text → Number
-  -- its base, its second letter and its digits
-  Based : Radix → ℕ → Text → Number
-  -- an integer, its fraction behind `.`, perhaps none, and its exponent
-  Fraction : Text → Text → Exponent → Number
-  -- `.`, digits and an exponent
+  -- DecimalLiteral: an integer, a fraction and an exponent
+  Decimal : Text → Fraction → Exponent → Number
+  -- DecimalLiteral: `.`, digits and an exponent
   Point : Text → Exponent → Number
-  -- an integer and an exponent
-  Scaled : Text → Exponent → Number
-  -- BigIntLiteral: an integer, of any base, and `n`
+  -- DecimalBigIntegerLiteral: an integer and `n`
   Big : Text → Number
-  BigBased : Radix → ℕ → Text → Number
+  -- NonDecimalIntegerLiteral: `0`, the letter of its base and digits; `true` with `n` behind them
+  Based : Radix → ℕ → Text → Bool → Number
+
+abbrev pub suffix : Bool → Text
+suffix true = 110 ∷ []
+suffix false = []
 
 abbrev pub number_units : Number → Text
-number_units (Integer ds) = ds
-number_units (Based r m ds) = 48 ∷ m ∷ ds
-number_units (Fraction ds fs e) = ds ++ 46 ∷ (fs ++ exponent_units e)
+number_units (Decimal ds f e) = ds ++ (fraction_units f ++ exponent_units e)
 number_units (Point fs e) = 46 ∷ (fs ++ exponent_units e)
-number_units (Scaled ds e) = ds ++ exponent_units e
-number_units (Big ds) = ds ++ 110 ∷ []
-number_units (BigBased r m ds) = 48 ∷ m ∷ (ds ++ 110 ∷ [])
-
-abbrev pub IsBased : Radix → ℕ → Text → Type 0
-IsBased r m ds = (is_mark r m ≡ true) × Digits (is_digit_of r) ds
+number_units (Big ds) = ds ++ suffix true
+number_units (Based r m ds b) = 48 ∷ m ∷ (ds ++ suffix b)
 
 abbrev pub IsNumber : Number → Type 0
-IsNumber (Integer ds) = IsInteger ds
-IsNumber (Based r m ds) = IsBased r m ds
-IsNumber (Fraction ds fs e) = IsInteger ds × Every (Passes is_digit) fs × IsExponent e
+IsNumber (Decimal ds f e) = IsInteger ds × IsFraction f × IsExponent e
 IsNumber (Point fs e) = Digits is_digit fs × IsExponent e
-IsNumber (Scaled ds e) = IsInteger ds × IsExponent e
 IsNumber (Big ds) = IsInteger ds
-IsNumber (BigBased r m ds) = IsBased r m ds
+IsNumber (Based r m ds b) = (is_mark r m ≡ true) × Digits (is_digit_of r) ds
 
 -- ---- the characters of strings and templates (sections 12.9.4 and 12.9.6)
 
@@ -305,8 +312,8 @@ ReadsWord w r = (IsAscii w × ((k : TokenKind) × IsKind w k × (r ≡ Token k))
 
 -- section 12.9.3.3, MV, of the numbers that are read: integers without `n`
 abbrev pub number_value : Number → Option ℕ
-number_value (Integer ds) = Some (value 10 0 ds)
-number_value (Based r m ds) = Some (value (radix_value r) 0 ds)
+number_value (Decimal ds NoFraction NoExponent) = Some (value 10 0 ds)
+number_value (Based r m ds false) = Some (value (radix_value r) 0 ds)
 number_value _ = None
 
 -- a safe integer is read
@@ -332,3 +339,72 @@ Reads (Numeric n) z r = ReadsNumber n z r
 Reads (String d cs) z r = r ≡ Token (tok.Text (characters_value cs))
 Reads (Part b cs e) z r = r ≡ Token (tok.Template (part_of b e) (characters_value cs))
 Reads (Sign w p) z r = r ≡ Token (tok.Punctuator p)
+
+-- ---- the whole text
+
+-- an element of the text, and what it is read as
+pub record Piece : Type 0 where
+  pub element : Element
+  pub reading : Reading
+
+abbrev pub piece_units : Piece → Text
+piece_units p = units p.element
+
+abbrev pub text_of : List Piece → Text
+text_of ps = flat_map piece_units ps
+
+abbrev pub IsRead : Reading → Type 0
+IsRead (Refused why) = ⊥
+IsRead _ = Unit {0}
+
+-- the open braces behind a piece, the innermost first
+abbrev pub braces_behind : Reading → List Brace → List Brace
+braces_behind (Token k) bs = braces k bs
+braces_behind _ bs = bs
+
+abbrev pub open_braces : List Brace → List Piece → List Brace
+open_braces bs [] = bs
+open_braces bs (p ∷ ps) = open_braces (braces_behind p.reading bs) ps
+
+-- the piece is the longest element with this text behind it, and is read so
+abbrev pub IsPiece : Bool → Element → Text → Reading → Type 0
+IsPiece h e z r = Stands h e z × IsLongest h e z × Reads e z r
+
+-- These are pieces within these braces, with a tail behind them.
+abbrev pub ArePieces : List Brace → List Piece → Text → Type 0
+ArePieces bs [] tail = Unit {0}
+ArePieces bs (p ∷ ps) tail = IsPiece (in_hole bs) p.element (text_of ps ++ tail) p.reading × IsRead p.reading × ArePieces (braces_behind p.reading bs) ps tail
+
+-- The tail is empty; or no element stands there, or one that is refused.
+abbrev pub Stops : Bool → Text → Option Unread → Type 0
+Stops h tail None = tail ≡ []
+Stops h tail (Some why) =
+    ((1 ≤ length tail) × BeginsNone h tail × (why ≡ bad.Syntax)) ⊎ ((e : Element) × (rest : Text) × (tail ≡ units e ++ rest) × IsPiece h e rest (Refused why))
+
+abbrev pub last_kind : ℕ → Option Unread → TokenKind
+last_kind n None = tok.End
+last_kind n (Some why) = tok.Bad (fault n why)
+
+abbrev pub piece_tokens : ℕ → Bool → Reading → List Placed
+piece_tokens n l (Token k) = token n l k ∷ []
+piece_tokens n l _ = []
+
+-- a line end stands between the last token and what comes behind the piece
+abbrev pub line_ends : Bool → Reading → Bool
+line_ends l (Gap b) = l || b
+line_ends l _ = false
+
+-- the tokens of the pieces, where the first piece begins at this place, behind a line end or not
+abbrev pub tokens : ℕ → Bool → List Piece → Option Unread → List Placed
+tokens n l [] stop = token n l (last_kind n stop) ∷ []
+tokens n l (p ∷ ps) stop = piece_tokens n l p.reading ++ tokens (n + length (units p.element)) (line_ends l p.reading) ps stop
+
+-- The text has these tokens.
+pub record AreTokens (text : Text) (ts : List Placed) : Type 0 where
+  pub pieces : List Piece
+  pub tail : Text
+  pub stop : Option Unread
+  pub is_text : text ≡ text_of pieces ++ tail
+  pub are : ArePieces [] pieces tail
+  pub stops : Stops (in_hole (open_braces [] pieces)) tail stop
+  pub found : ts ≡ tokens 0 false pieces stop
