@@ -12,3 +12,4 @@ pub mod Characters
 pub mod Literals
 pub mod Comments
 pub mod Fronts
+pub mod LexLaws

@@ -13,7 +13,7 @@ use Rattle.js_lex.specs.Front.{front_of, more_units}
 use Rattle.js_lex.specs.Lexed.{in_hole, braces, token, put, tokens_from}
 use Rattle.js_lex.specs.Scan.{taken}
 
-from_drop : (k n : ℕ) (l : Bool) (bs : List Brace) (z : Text) → tokens_from k n l bs z ≡ tokens_from 0 n l bs (drop k z)
+pub from_drop : (k n : ℕ) (l : Bool) (bs : List Brace) (z : Text) → tokens_from k n l bs z ≡ tokens_from 0 n l bs (drop k z)
 from_drop zero n l bs z = refl
 from_drop (suc k) n l bs [] = refl
 from_drop (suc k) n l bs (u ∷ z) = from_drop k n l bs z
