@@ -1,6 +1,6 @@
 -- The characters of strings and templates.
-use Rattle.std.proofs.Common.{◌≡◌, ℕ, zero, suc, ◌+◌, ◌-◌, ◌*◌, ◌≤◌, ◌<◌, Bool, true, false, cond, List, [], ◌∷◌, ◌++◌, take, drop, length, Option, Some, None, refl, sym, ◌∙◌, ap, subst, arith, append_assoc, ◌⊎◌, inl, inr}
-use Rattle.std.specs.Prelude.{◌==◌, ◌&&◌, ◌||◌, not, nat_le, slice_index, flat_map}
+use Rattle.std.proofs.Common.{◌≡◌, ℕ, zero, suc, ◌+◌, ◌*◌, ◌≤◌, Bool, true, false, cond, List, [], ◌∷◌, ◌++◌, take, drop, length, Option, Some, None, refl, sym, ◌∙◌, ap, subst, arith, append_assoc, ◌⊎◌, inl, inr}
+use Rattle.std.specs.Prelude.{◌==◌, ◌&&◌, ◌||◌, not, nat_le, slice_index}
 use Rattle.std.proofs.lemmas.Bool.{eqb-true, eq-eqb, le-leb, leb-true}
 use Rattle.std.proofs.lemmas.List.{length-append}
 use Rattle.js_lex.specs.declared.units.Class.TheVariants as class
@@ -14,12 +14,12 @@ use Rattle.js_lex.specs.declared.letters.Ending.TheVariants as ending
 use Rattle.js_lex.specs.declared.letters.Next.{Next}
 use Rattle.js_lex.specs.declared.letters.Next.TheVariants as next
 use Rattle.js_lex.specs.declared.letters.Body.{Body}
-use Rattle.js_lex.specs.Units.{Text, is_line_end, is_digit, is_hex, is_in, past, digit_of, value, numeral}
-use Rattle.js_lex.specs.Letters.{meant, one, encoded, hex_escape, four_digits, of_code, code_point, unicode_escape, escaped, digit_escape, line_units, line_continuation, escape_of, escape, raw, letter_of, ends, ending_units, read, end_or, next_of, after, joined, body_of}
-use Rattle.js_lex.specs.Grammar.{Every, Passes, In, NotNext, is, Digits, Character, Plain, Line, Escape, Nul, HexPair, Four, CodePoint, Continued, character_units, character_value, LineEnds, Returns, IsPlain, StandsIn, characters_units, characters_value, AreCharacters, mark, ending_text}
+use Rattle.js_lex.specs.Units.{Text, is_line_end, is_digit, is_hex, past, digit_of, value, numeral}
+use Rattle.js_lex.specs.Letters.{meant, one, encoded, hex_escape, four_digits, of_code, code_point, unicode_escape, escaped, digit_escape, line_units, line_continuation, escape, raw, letter_of, ending_units, read, end_or, next_of, after, joined, body_of}
+use Rattle.js_lex.specs.Grammar.{Every, Passes, NotNext, is, Digits, Character, Plain, Line, Escape, Nul, HexPair, Four, CodePoint, Continued, character_units, character_value, LineEnds, Returns, IsPlain, StandsIn, characters_units, characters_value, AreCharacters, mark, ending_text}
 use Rattle.js_lex.proofs.LetterLemmas.{body_drop}
-use Rattle.js_lex.proofs.Tests.{cond_yes, cond_no, either, or_no, or_first, or_second, or_split, and_first, and_second, and_both, and_no_first, and_no_second, not_yes, not_no, apart}
-use Rattle.js_lex.proofs.Runs.{run, run_exact, run_passes, run_length, take_here, drop_here, both_parts, one_behind}
+use Rattle.js_lex.proofs.Truths.{cond_yes, cond_no, either, or_no, or_first, or_second, or_split, and_first, and_second, and_both, and_no_first, and_no_second, not_yes, not_no, apart}
+use Rattle.js_lex.proofs.Runs.{run, run_exact, run_passes, run_length, take_here, drop_here, one_behind}
 use Rattle.js_lex.proofs.Signs.{no_truth}
 
 -- ---- a character is the next letter
@@ -120,8 +120,8 @@ four_letter q a b c d z e =
     record {
       l = letter 5 (m.One (4096 * digit_of a + 256 * digit_of b + (16 * digit_of c + digit_of d)));
       at =
-        escape_next q (117 ∷ a ∷ b ∷ c ∷ d ∷ z)
-        ∙ ap read (cond_no (a == 123) _ _ no ∙ cond_yes _ _ _ (and_both (nat_le 4 (length (a ∷ b ∷ c ∷ d ∷ z))) ((is_hex a && is_hex b) && (is_hex c && is_hex d)) long (and_both (is_hex a && is_hex b) (is_hex c && is_hex d) (and_both (is_hex a) (is_hex b) e.0 e.1.0) (and_both (is_hex c) (is_hex d) e.1.1.0 e.1.1.1.0))));
+          escape_next q (117 ∷ a ∷ b ∷ c ∷ d ∷ z)
+          ∙ ap read (cond_no (a == 123) _ _ no ∙ cond_yes _ _ _ (and_both (nat_le 4 (length (a ∷ b ∷ c ∷ d ∷ z))) ((is_hex a && is_hex b) && (is_hex c && is_hex d)) long (and_both (is_hex a && is_hex b) (is_hex c && is_hex d) (and_both (is_hex a) (is_hex b) e.0 e.1.0) (and_both (is_hex c) (is_hex d) e.1.1.0 e.1.1.1.0))));
       size = omega arith;
       means = ap (λ (n : ℕ). n ∷ []) (omega arith);
     }

@@ -1,22 +1,20 @@
 -- Comments, and what else begins with `/`.
-use Rattle.std.proofs.Common.{◌≡◌, ℕ, zero, suc, ◌+◌, ◌-◌, ◌≤◌, ◌<◌, Bool, true, false, cond, List, [], ◌∷◌, ◌++◌, take, drop, length, Option, Some, None, refl, sym, ◌∙◌, ap, subst, arith, append_assoc, ◌⊎◌, inl, inr}
+use Rattle.std.proofs.Common.{◌≡◌, ℕ, ◌+◌, ◌≤◌, ◌<◌, Bool, true, false, cond, [], ◌∷◌, ◌++◌, take, drop, length, Option, Some, None, refl, sym, ◌∙◌, ap, subst, arith, append_assoc, inl, inr}
 use Rattle.std.specs.Prelude.{◌==◌, ◌&&◌, ◌||◌, not, nat_lt, slice_index}
 use Rattle.std.proofs.lemmas.Bool.{eqb-true, eq-eqb, ltb-true, lt-ltb}
 use Rattle.std.proofs.lemmas.List.{length-append}
 use Rattle.js_lex.specs.declared.token.Punctuator.{Punctuator}
 use Rattle.js_lex.specs.declared.units.Class.TheVariants as class
-use Rattle.js_lex.specs.declared.front.Front.{Front}
 use Rattle.js_lex.specs.declared.front.Front.TheVariants as front
-use Rattle.js_lex.specs.declared.front.Unread.TheVariants as bad
 use Rattle.js_lex.specs.Tables.{punctuators}
 use Rattle.js_lex.specs.Units.{Text, is_line_end, past}
 use Rattle.js_lex.specs.Front as code
-use Rattle.js_lex.specs.Grammar.{In, Every, Passes, NotNext, is, is_inner, NoEnd, some, Element, White, LineEnd, LineComment, BlockComment, Word, Numeric, String, Part, Sign, units, Stands, IsLongest, Begins, BeginsNone, Reading, Gap, Token, Refused}
-use Rattle.js_lex.proofs.Tests.{cond_yes, cond_no, either, or_no, or_first, or_second, and_first, and_second, and_both, and_no_first, and_no_second, not_yes, not_no, or_yes_first, or_yes_second, all_of, in_all}
-use Rattle.js_lex.proofs.Which.{Which, AtSlash, which, sort}
-use Rattle.js_lex.proofs.Runs.{run, one_behind, run_passes, run_least, run_length, run_within, both_parts, take_here}
+use Rattle.js_lex.specs.Grammar.{In, NotNext, is, is_inner, NoEnd, some, Element, White, LineEnd, LineComment, BlockComment, Word, Numeric, String, Part, Sign, units, Stands, IsLongest, Gap}
+use Rattle.js_lex.proofs.Truths.{cond_no, either, and_first, and_second, and_both, and_no_first, and_no_second, not_yes, all_of, in_all}
+use Rattle.js_lex.proofs.Which.{Which, AtSlash, sort}
+use Rattle.js_lex.proofs.Runs.{run, run_passes, run_least, run_length, both_parts, take_here}
 use Rattle.js_lex.proofs.Longest.{Found, FrontIs, sort_of, number_sort}
-use Rattle.js_lex.proofs.Signs.{no_truth, Row, IsSign, SignsOnly, found_sign}
+use Rattle.js_lex.proofs.Signs.{no_truth, Row, IsSign, found_sign}
 
 -- ---- the end of a comment
 
@@ -163,8 +161,8 @@ found_line h z =
         is_text = sym parts;
         stands = run_passes is_inner z;
         longest = λ f more s k.
-          let x = line_bound h f more z (sort_of h f more 47 (47 ∷ z) s (k ∙ parts)) s (k ∙ parts) in
-          omega (arith, x, run_length is_inner z);
+            let x = line_bound h f more z (sort_of h f more 47 (47 ∷ z) s (k ∙ parts)) s (k ∙ parts) in
+            omega (arith, x, run_length is_inner z);
       };
       reads = refl;
       is = ap (λ (n : ℕ). front.Gap n false) (omega (arith, run_length is_inner z));
@@ -215,10 +213,10 @@ found_block h z n e k =
         is_text = text;
         stands = k.none;
         longest = λ f more s t.
-          let c = block_sized h f more z (sort_of h f more 47 (42 ∷ z) s (t ∙ sym text)) s (t ∙ sym text) in
-          let same : Some c.size ≡ Some n = sym c.whole ∙ e in
-          let eq : c.size ≡ n = cc in
-          omega (arith, c.same, eq, size);
+            let c = block_sized h f more z (sort_of h f more 47 (42 ∷ z) s (t ∙ sym text)) s (t ∙ sym text) in
+            let same : Some c.size ≡ Some n = sym c.whole ∙ e in
+            let eq : c.size ≡ n = cc in
+            omega (arith, c.same, eq, size);
       };
       reads = refl;
       is = ap (λ (x : Text). code.gap_of (42 ∷ x) (Some n)) k.text ∙ comment_gap k.inside k.rest n k.size ∙ ap (λ (m : ℕ). front.Gap m (some is_line_end k.inside)) (omega (arith, size));

@@ -1,11 +1,10 @@
 -- What the code tells of the front of a text is what the grammar says, and nothing else.
-use Rattle.std.proofs.Common.{◌≡◌, ℕ, zero, suc, ◌+◌, ◌-◌, ◌≤◌, Bool, true, false, cond, List, [], ◌∷◌, ◌++◌, take, drop, length, Option, Some, None, refl, sym, ◌∙◌, ap, subst, arith, append_assoc, ◌⊎◌, inl, inr}
+use Rattle.std.proofs.Common.{◌≡◌, ℕ, suc, ◌+◌, ◌-◌, ◌≤◌, Bool, true, false, cond, [], ◌∷◌, ◌++◌, take, length, Some, refl, sym, ◌∙◌, ap, subst, arith, ◌⊎◌, inl, inr}
 use Rattle.std.specs.Prelude.{◌==◌, ◌&&◌, ◌||◌, not, slice_index}
 use Rattle.std.proofs.lemmas.Bool.{eqb-true, eq-eqb}
 use Rattle.std.proofs.lemmas.List.{length-append}
 use Rattle.js_lex.specs.declared.token.TokenKind.TheVariants as tok
 use Rattle.js_lex.specs.declared.token.Punctuator.{Punctuator}
-use Rattle.js_lex.specs.declared.letters.Ending.TheVariants as ending
 use Rattle.js_lex.specs.declared.letters.Quote.TheVariants as quote
 use Rattle.js_lex.specs.declared.front.Front.{Front}
 use Rattle.js_lex.specs.declared.front.Front.TheVariants as front
@@ -14,13 +13,13 @@ use Rattle.js_lex.specs.Tables.{punctuators}
 use Rattle.js_lex.specs.Units.{Text, is_line_end, is_white, is_digit, is_name}
 use Rattle.js_lex.specs.Letters.{ending_units}
 use Rattle.js_lex.specs.Front as code
-use Rattle.js_lex.specs.Grammar.{In, Every, Passes, NotNext, is, some, Number, Decimal, Point, Big, Based, number_units, IsNumber, characters_units, characters_value, mark, string_quote, part_begin, ending_text, Element, White, LineEnd, LineComment, BlockComment, Word, Numeric, String, Part, Sign, units, Stands, IsLongest, Begins, BeginsNone, Reading, Gap, Token, Refused, ReadsNumber, Reads, IsPiece}
-use Rattle.js_lex.proofs.Tests.{cond_yes, cond_no, either, and_first, and_second, and_both, and_no_first, not_yes, white_no_line_end, all_of, in_all}
+use Rattle.js_lex.specs.Grammar.{In, Every, Passes, some, Number, Decimal, Point, Big, Based, number_units, IsNumber, characters_units, characters_value, mark, string_quote, part_begin, ending_text, Element, White, LineEnd, LineComment, BlockComment, Word, Numeric, String, Part, Sign, units, Stands, IsLongest, Begins, Reading, Token, ReadsNumber, Reads, IsPiece}
+use Rattle.js_lex.proofs.Truths.{cond_yes, cond_no, and_first, and_second, not_yes, all_of, in_all}
 use Rattle.js_lex.proofs.Which.{Which, AtLineEnd, AtWhite, AtString, AtPart, AtNumber, AtName, AtPoint, AtSlash, AtSign, which, which_of, which_word, which_number, front_by, front_which, sort, sorted}
 use Rattle.js_lex.proofs.Runs.{take_here}
-use Rattle.js_lex.proofs.Longest.{Found, FrontIs, front_for, sort_of, word_sort, number_sort, found_white, found_line_end}
+use Rattle.js_lex.proofs.Longest.{FrontIs, front_for, sort_of, word_sort, number_sort, found_white, found_line_end}
 use Rattle.js_lex.proofs.Words.{found_word, word_only}
-use Rattle.js_lex.proofs.Signs.{no_truth, Row, IsSign, SignsOnly, Fine, found_sign, same_sign}
+use Rattle.js_lex.proofs.Signs.{no_truth, Row, IsSign, Fine, found_sign, same_sign}
 use Rattle.js_lex.proofs.Literals.{found_string, string_only, found_part, part_only, end_size}
 use Rattle.js_lex.proofs.Comments.{slash_one, found_slash, line_only, block_only}
 

@@ -1,5 +1,5 @@
 -- The tokens of a text are those of the grammar, and no others.
-use Rattle.std.proofs.Common.{◌≡◌, ℕ, zero, suc, ◌+◌, ◌-◌, ◌≤◌, Bool, true, false, List, [], ◌∷◌, ◌++◌, drop, length, Option, Some, None, refl, sym, ◌∙◌, ap, subst, arith, append_assoc, ◌⊎◌, inl, inr}
+use Rattle.std.proofs.Common.{◌≡◌, ℕ, zero, suc, ◌+◌, ◌-◌, ◌≤◌, Bool, false, List, [], ◌∷◌, ◌++◌, drop, length, Option, Some, None, refl, sym, ◌∙◌, ap, subst, arith, append_assoc, inl, inr}
 use Rattle.std.specs.Prelude.{◌||◌, ◌==◌, not}
 use Rattle.js_lex.specs.declared.token.TokenKind.TheVariants as tok
 use Rattle.js_lex.specs.declared.token.Token.{Token as Placed}
@@ -12,12 +12,12 @@ use Rattle.js_lex.specs.declared.front.Unread.TheVariants as bad
 use Rattle.js_lex.specs.Tables.{punctuators}
 use Rattle.js_lex.specs.Units.{Text}
 use Rattle.js_lex.specs.Front as code
-use Rattle.js_lex.specs.Lexed.{in_hole, fault, token, put, tokens_from, tokens_of}
-use Rattle.js_lex.specs.Grammar.{IsInteger, IsNumber, Number, Decimal, Point, Big, Based, number_units, Element, White, LineEnd, LineComment, BlockComment, Word, Numeric, String, Part, Sign, units, Stands, IsLongest, Begins, BeginsNone, Reading, Gap, Token, Refused, Reads, Piece, text_of, IsRead, braces_behind, open_braces, IsPiece, ArePieces, Stops, last_kind, piece_tokens, line_ends, tokens, AreTokens}
-use Rattle.js_lex.proofs.Tests.{in_all}
+use Rattle.js_lex.specs.Lexed.{in_hole, token, put, tokens_from, tokens_of}
+use Rattle.js_lex.specs.Grammar.{IsInteger, IsNumber, Number, Decimal, Point, Big, Based, number_units, Element, White, LineEnd, LineComment, BlockComment, Word, Numeric, String, Part, Sign, units, Stands, Begins, BeginsNone, Reading, Gap, Token, Refused, Reads, Piece, text_of, IsRead, braces_behind, open_braces, IsPiece, ArePieces, Stops, piece_tokens, line_ends, tokens, AreTokens}
+use Rattle.js_lex.proofs.Truths.{in_all}
 use Rattle.js_lex.proofs.ScanLemmas.{from_drop}
 use Rattle.js_lex.proofs.Runs.{drop_here}
-use Rattle.js_lex.proofs.Longest.{Found, FrontIs, front_for}
+use Rattle.js_lex.proofs.Longest.{FrontIs, front_for}
 use Rattle.js_lex.proofs.Signs.{no_truth, Row}
 use Rattle.js_lex.proofs.Fronts.{NumberLaws, front_at, front_sound, front_only}
 

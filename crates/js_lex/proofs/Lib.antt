@@ -2,7 +2,7 @@ pub mod Back
 pub mod UnitLemmas
 pub mod LetterLemmas
 pub mod ScanLemmas
-pub mod Tests
+pub mod Truths
 pub mod Which
 pub mod Runs
 pub mod Longest

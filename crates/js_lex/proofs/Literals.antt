@@ -1,5 +1,5 @@
 -- Strings and parts of templates.
-use Rattle.std.proofs.Common.{◌≡◌, ℕ, zero, suc, ◌+◌, ◌-◌, ◌≤◌, Bool, true, false, List, [], ◌∷◌, ◌++◌, drop, length, Option, Some, None, refl, sym, ◌∙◌, ap, subst, arith, append_assoc, ◌⊎◌, inl, inr}
+use Rattle.std.proofs.Common.{◌≡◌, ℕ, suc, ◌+◌, Bool, true, false, List, [], ◌∷◌, ◌++◌, length, Option, Some, None, refl, sym, ◌∙◌, ap, subst, arith, append_assoc, ◌⊎◌, inl, inr}
 use Rattle.std.proofs.lemmas.List.{length-append}
 use Rattle.js_lex.specs.declared.token.TokenKind.TheVariants as tok
 use Rattle.js_lex.specs.declared.letters.Quote.{Quote}
@@ -7,12 +7,11 @@ use Rattle.js_lex.specs.declared.letters.Quote.TheVariants as quote
 use Rattle.js_lex.specs.declared.letters.Ending.{Ending}
 use Rattle.js_lex.specs.declared.letters.Ending.TheVariants as ending
 use Rattle.js_lex.specs.declared.letters.Body.{Body}
-use Rattle.js_lex.specs.declared.front.Front.{Front}
 use Rattle.js_lex.specs.declared.front.Front.TheVariants as front
 use Rattle.js_lex.specs.Units.{Text}
 use Rattle.js_lex.specs.Letters.{ending_units, body_of}
 use Rattle.js_lex.specs.Front as code
-use Rattle.js_lex.specs.Grammar.{Character, characters_units, characters_value, AreCharacters, mark, ending_text, string_quote, part_begin, Element, White, LineEnd, LineComment, BlockComment, Word, Numeric, String, Part, Sign, units, Stands, Begins, BeginsNone, Reading, Gap, Token, Refused}
+use Rattle.js_lex.specs.Grammar.{Character, characters_units, characters_value, AreCharacters, mark, ending_text, string_quote, part_begin, Element, White, LineEnd, LineComment, BlockComment, Word, Numeric, String, Part, Sign, units, Stands, Token}
 use Rattle.js_lex.proofs.Which.{Which, AtString, AtPart, which, sort}
 use Rattle.js_lex.proofs.Characters.{MayEnd, body, body_whole, BodyIs, body_sound}
 use Rattle.js_lex.proofs.Longest.{Found, FrontIs, sort_of, word_sort, number_sort}
@@ -88,8 +87,8 @@ found_body h d u z b w m e i =
         is_text = whole;
         stands = are;
         longest = λ f more s k.
-          let n = quoted_size (string_quote d) z (length (units f)) b e (string_is h d f more u z (sort_of h f more u z s (k ∙ sym whole) ∙ w) s (k ∙ sym whole)) in
-          omega (arith, n, size);
+            let n = quoted_size (string_quote d) z (length (units f)) b e (string_is h d f more u z (sort_of h f more u z s (k ∙ sym whole) ∙ w) s (k ∙ sym whole)) in
+            omega (arith, n, size);
       };
       reads = refl;
       is = ap (λ (x : List ℕ). front.Token (tok.Text x) b.units) i.value_ ∙ ap (front.Token (tok.Text (characters_value i.chars))) (omega (arith, size));
@@ -135,8 +134,8 @@ found_part_body h b u z y w m g e i =
         is_text = whole;
         stands = (g, i.are);
         longest = λ f more s k.
-          let n = quoted_size quote.Template z (length (units f)) y e (part_is h b f more u z (sort_of h f more u z s (k ∙ sym whole) ∙ w) s (k ∙ sym whole)) in
-          omega (arith, n, size);
+            let n = quoted_size quote.Template z (length (units f)) y e (part_is h b f more u z (sort_of h f more u z s (k ∙ sym whole) ∙ w) s (k ∙ sym whole)) in
+            omega (arith, n, size);
       };
       reads = refl;
       is = ap (λ (x : List ℕ). front.Token (tok.Template (code.part_of b y.ending) x) y.units) i.value_ ∙ ap (front.Token (tok.Template (code.part_of b y.ending) (characters_value i.chars))) (omega (arith, size));

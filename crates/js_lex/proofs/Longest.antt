@@ -1,13 +1,13 @@
 -- The longest element at the front of a text.
-use Rattle.std.proofs.Common.{◌≡◌, ℕ, zero, suc, ◌+◌, ◌-◌, ◌≤◌, Bool, true, false, cond, List, [], ◌∷◌, ◌++◌, take, drop, length, Some, refl, sym, ◌∙◌, ap, subst, arith, ◌⊎◌, inl, inr}
+use Rattle.std.proofs.Common.{◌≡◌, ℕ, ◌-◌, ◌≤◌, Bool, true, false, cond, ◌∷◌, ◌++◌, drop, length, Some, refl, sym, ◌∙◌, ap, arith, ◌⊎◌}
 use Rattle.std.specs.Prelude.{slice_index}
 use Rattle.js_lex.specs.declared.front.Front.{Front}
 use Rattle.js_lex.specs.declared.front.Front.TheVariants as front
 use Rattle.js_lex.specs.declared.front.Unread.TheVariants as bad
 use Rattle.js_lex.specs.Units.{Text, is_line_end, is_white}
-use Rattle.js_lex.specs.Grammar.{Number, Decimal, Based, Point, Big, Element, White, LineEnd, LineComment, BlockComment, Word, Numeric, String, Part, Sign, units, Stands, IsLongest, Begins, BeginsNone, Reading, Gap, Token, Refused, Reads}
-use Rattle.js_lex.proofs.Tests.{cond_yes, cond_no}
-use Rattle.js_lex.proofs.Which.{Which, AtLineEnd, AtWhite, AtString, AtPart, AtNumber, AtName, AtPoint, AtSlash, AtSign, which, which_of, which_sign, which_number, which_word, sort, sorted}
+use Rattle.js_lex.specs.Grammar.{Number, Decimal, Based, Point, Big, Element, White, LineEnd, LineComment, BlockComment, Word, Numeric, String, Part, Sign, units, Stands, Begins, BeginsNone, Reading, Gap, Token, Refused, Reads}
+use Rattle.js_lex.proofs.Truths.{cond_yes, cond_no}
+use Rattle.js_lex.proofs.Which.{Which, AtLineEnd, AtWhite, AtNumber, AtPoint, AtSlash, AtSign, which, which_of, which_sign, which_number, which_word, sort, sorted}
 
 -- no element at the front has more units
 abbrev pub AtMost : Bool → Text → ℕ → Type 0

@@ -1,6 +1,6 @@
 -- Punctuators.
-use Rattle.std.proofs.Common.{◌≡◌, ℕ, zero, suc, ◌+◌, ◌-◌, ◌≤◌, ◌<◌, Bool, true, false, cond, List, [], ◌∷◌, ◌++◌, take, drop, length, refl, sym, ◌∙◌, ap, subst, arith, ◌⊎◌, inl, inr}
-use Rattle.std.specs.Prelude.{◌==◌, ◌&&◌, ◌||◌, not, slice_index}
+use Rattle.std.proofs.Common.{◌≡◌, ℕ, ◌-◌, ◌≤◌, Bool, true, false, List, [], ◌∷◌, ◌++◌, drop, length, refl, sym, ◌∙◌, ap, subst, arith, ◌⊎◌, inl, inr}
+use Rattle.std.specs.Prelude.{◌==◌, ◌&&◌, not, slice_index}
 use Rattle.std.proofs.lemmas.Bool.{eqb-true, eq-eqb}
 use Rattle.js_lex.specs.declared.token.TokenKind.TheVariants as tok
 use Rattle.js_lex.specs.declared.token.Punctuator.{Punctuator}
@@ -11,8 +11,8 @@ use Rattle.js_lex.specs.declared.front.Unread.TheVariants as bad
 use Rattle.js_lex.specs.Tables.{punctuators}
 use Rattle.js_lex.specs.Units.{Text, is_digit, begins}
 use Rattle.js_lex.specs.Front as code
-use Rattle.js_lex.specs.Grammar.{In, NotNext, is, Element, White, LineEnd, LineComment, BlockComment, Word, Numeric, String, Part, Sign, units, MayFollow, Stands, IsLongest, Begins, BeginsNone, Reading, Gap, Token, Refused}
-use Rattle.js_lex.proofs.Tests.{cond_yes, cond_no, either, and_first, and_second, and_both, and_no_first, not_yes, not_no, or_split, all_of, in_all}
+use Rattle.js_lex.specs.Grammar.{In, NotNext, is, Element, Sign, units, MayFollow, Stands, Token}
+use Rattle.js_lex.proofs.Truths.{cond_yes, cond_no, either, and_first, and_second, and_both, not_yes, all_of, in_all}
 use Rattle.js_lex.proofs.Words.{begins_self}
 use Rattle.js_lex.proofs.Longest.{Found, FrontIs}
 
@@ -146,12 +146,11 @@ one_unit : (c u : ℕ) (z w more : Text) → w ≡ c ∷ [] → u ∷ z ≡ w ++
 one_unit c u z w more e t = let k : u ∷ z ≡ c ∷ more = t ∙ ap (λ (x : Text). x ++ more) e in (cc, cc)
 
 may_follow : (h : Bool) (u : ℕ) (z w more : Text) → is_chain u z ≡ false → Fine h u z → u ∷ z ≡ w ++ more → MayFollow h w more
-may_follow h u z w more n f t =
-    (
-      (λ e. not_chain u z w more n e t),
-      (λ e. (let k = one_unit 47 u z w more e t in subst (NotNext (is 42)) k.1 (f.slash k.0))),
-      (λ e. (let k = one_unit 125 u z w more e t in f.brace k.0))
-    )
+may_follow h u z w more n f t = (
+  (λ e. not_chain u z w more n e t),
+  (λ e. (let k = one_unit 47 u z w more e t in subst (NotNext (is 42)) k.1 (f.slash k.0))),
+  (λ e. (let k = one_unit 125 u z w more e t in f.brace k.0)),
+)
 
 sign_most : (h : Bool) (t : Text) (n : ℕ) → ((s : Row) → In s punctuators → begins t s.0 ≡ true → length s.0 ≤ n) → (f : Element) (more : Text) → IsSign f → Stands h f more → units f ++ more ≡ t → length (units f) ≤ n
 sign_most h t n g f more i =

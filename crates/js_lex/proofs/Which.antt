@@ -1,17 +1,16 @@
 -- Which element can stand at the front, by the first units.
-use Rattle.std.proofs.Common.{◌≡◌, ℕ, ◌≤◌, Bool, true, false, cond, List, [], ◌∷◌, ◌++◌, drop, length, Option, Some, None, refl, sym, ◌∙◌, ap, subst, arith, ◌⊎◌, inl, inr}
+use Rattle.std.proofs.Common.{◌≡◌, ℕ, ◌≤◌, Bool, true, false, cond, [], ◌∷◌, ◌++◌, drop, length, Option, Some, None, refl, ◌∙◌, ap, arith, ◌⊎◌, inl, inr}
 use Rattle.std.specs.Prelude.{not, ◌&&◌, ◌||◌, ◌==◌, slice_index}
 use Rattle.std.proofs.lemmas.Bool.{eqb-true}
 use Rattle.js_lex.specs.declared.token.Punctuator.{Punctuator}
 use Rattle.js_lex.specs.declared.letters.Quote.TheVariants as quote
-use Rattle.js_lex.specs.declared.letters.Ending.{Ending}
 use Rattle.js_lex.specs.declared.front.Front.{Front}
 use Rattle.js_lex.specs.Tables.{punctuators}
 use Rattle.js_lex.specs.Units.{Text, is_line_end, is_white, is_digit, is_name}
 use Rattle.js_lex.specs.Front as code
 use Rattle.js_lex.specs.declared.front.Front.TheVariants as front
 use Rattle.js_lex.specs.Grammar.{In, Every, Passes, IsInteger, Number, Decimal, Based, Point, Big, Element, White, LineEnd, LineComment, BlockComment, Word, Numeric, String, Part, Sign, units, number_units, exponent_units, characters_units, ending_text, string_quote, part_begin, mark, IsNumber, Stands, MayFollow}
-use Rattle.js_lex.proofs.Tests.{cond_yes, cond_no, cond_ap, or_no, or_first, or_second, or_split, and_first, and_second, and_both, and_no_first, and_no_second, not_yes, apart, name_no_white, name_no_line_end, white_no_line_end, digit_name, all_of, in_all}
+use Rattle.js_lex.proofs.Truths.{cond_yes, cond_no, cond_ap, or_first, or_second, and_first, and_second, and_no_first, not_yes, apart, name_no_white, name_no_line_end, white_no_line_end, digit_name, all_of, in_all}
 
 pub data Which : Type 0 where
   AtLineEnd : Which

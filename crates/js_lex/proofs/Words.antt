@@ -1,23 +1,21 @@
 -- Names and reserved words.
-use Rattle.std.proofs.Common.{◌≡◌, ℕ, zero, suc, ◌+◌, ◌-◌, ◌≤◌, Bool, true, false, cond, List, [], ◌∷◌, ◌++◌, take, drop, length, Option, Some, None, refl, sym, ◌∙◌, ap, subst, arith, ◌⊎◌, inl, inr}
+use Rattle.std.proofs.Common.{◌≡◌, ℕ, ◌+◌, ◌≤◌, Bool, true, false, cond, List, [], ◌∷◌, ◌++◌, take, drop, length, Option, Some, None, refl, sym, ◌∙◌, ap, subst, arith, inl, inr}
 use Rattle.std.specs.Prelude.{◌==◌, ◌&&◌, not}
 use Rattle.std.proofs.lemmas.Bool.{eqb-true, eq-eqb}
-use Rattle.std.proofs.lemmas.List.{append-nil}
 use Rattle.js_lex.specs.declared.token.TokenKind.{TokenKind}
-use Rattle.js_lex.specs.declared.token.TokenKind.TheVariants as tok
 use Rattle.js_lex.specs.declared.token.Reserved.{Reserved}
 use Rattle.js_lex.specs.declared.units.Class.TheVariants as class
 use Rattle.js_lex.specs.declared.front.Front.{Front}
 use Rattle.js_lex.specs.declared.front.Front.TheVariants as front
 use Rattle.js_lex.specs.declared.front.Unread.TheVariants as bad
 use Rattle.js_lex.specs.Tables.{reserved_words}
-use Rattle.js_lex.specs.Units.{Text, is_digit, is_part, is_name, is_in, past, begins}
+use Rattle.js_lex.specs.Units.{Text, is_digit, is_part, is_name, past, begins}
 use Rattle.js_lex.specs.Front as code
-use Rattle.js_lex.specs.Grammar.{In, Every, Passes, NotNext, Element, White, LineEnd, LineComment, BlockComment, Word, Numeric, String, Part, Sign, units, Stands, IsLongest, Begins, Reading, Gap, Token, Refused, IsKind, IsAscii, ReadsWord, Reads}
-use Rattle.js_lex.proofs.Tests.{cond_yes, cond_no, either, and_first, and_second, and_both, not_yes, part_name, all_of, in_all}
-use Rattle.js_lex.proofs.Which.{Which, AtLineEnd, AtWhite, AtString, AtPart, AtNumber, AtName, AtPoint, AtSlash, AtSign, which, which_of, which_sign, sort, sorted}
-use Rattle.js_lex.proofs.Runs.{run, one_behind, run_passes, run_stops, run_least, run_exact, run_length, every_wider, take_here, both_parts}
-use Rattle.js_lex.proofs.Longest.{AtMost, Found, front_for, sort_of, sign_sort, word_sort, number_sort, skip, chosen}
+use Rattle.js_lex.specs.Grammar.{In, Every, Passes, Element, White, LineEnd, LineComment, BlockComment, Word, Numeric, String, Part, Sign, units, Stands, IsLongest, Begins, Reading, Token, Refused, IsKind, IsAscii, ReadsWord}
+use Rattle.js_lex.proofs.Truths.{cond_yes, cond_no, either, and_first, and_second, and_both, not_yes, part_name, all_of, in_all}
+use Rattle.js_lex.proofs.Which.{Which, AtLineEnd, AtWhite, AtString, AtPart, AtNumber, AtName, which, which_sign, sort}
+use Rattle.js_lex.proofs.Runs.{run, run_passes, run_least, run_length, every_wider, take_here, both_parts}
+use Rattle.js_lex.proofs.Longest.{Found, front_for, sort_of, sign_sort, word_sort, number_sort, skip, chosen}
 
 -- ---- the table
 
@@ -180,8 +178,8 @@ begins_word h u z k =
       is_text = sym parts;
       stands = stands_word h u z (drop (run is_name z) z) w.0 w.1;
       longest = λ f more s e.
-        let x = word_bound f more h u z (sort_of h f more u z s (e ∙ parts) ∙ k) s (e ∙ parts) in
-        omega (arith, x, run_length is_name z);
+          let x = word_bound f more h u z (sort_of h f more u z s (e ∙ parts) ∙ k) s (e ∙ parts) in
+          omega (arith, x, run_length is_name z);
     }
 
 pub found_word : (h : Bool) (u : ℕ) (z : Text) → which h u z ≡ AtName → Found h (u ∷ z) (code.name u z)

@@ -1,7 +1,7 @@
--- Tests of units.
-use Rattle.std.proofs.Common.{◌≡◌, ℕ, ◌<◌, ◌≤◌, Bool, true, false, cond, List, [], ◌∷◌, refl, sym, ap, subst, arith, ◌⊎◌, inl, inr}
+-- Truth values, and what tests of units decide.
+use Rattle.std.proofs.Common.{◌≡◌, ℕ, ◌<◌, ◌≤◌, Bool, true, false, cond, List, [], ◌∷◌, refl, ap, subst, arith, ◌⊎◌, inl, inr}
 use Rattle.std.specs.Prelude.{not, ◌&&◌, ◌||◌, ◌==◌, nat_le}
-use Rattle.std.proofs.lemmas.Bool.{eqb-true, leb-true, le-leb, lt-leb}
+use Rattle.std.proofs.lemmas.Bool.{eqb-true, leb-true, lt-leb}
 use Rattle.js_lex.specs.Units.{is_between, is_white, is_line_end, is_digit, is_part, is_name}
 use Rattle.js_lex.specs.Grammar.{In}
 
