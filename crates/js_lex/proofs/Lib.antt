@@ -13,3 +13,4 @@ pub mod Literals
 pub mod Comments
 pub mod Fronts
 pub mod LexLaws
+pub mod Exponents
