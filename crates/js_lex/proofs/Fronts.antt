@@ -30,7 +30,7 @@ front_at h (u ∷ z) = code.front_of h u z
 -- what is still to be shown of numbers
 pub record NumberLaws : Type 0 where
   pub sound : (h : Bool) (u : ℕ) (z : Text) → which h u z ≡ AtNumber → FrontIs h (u ∷ z) (code.number u z)
-  pub sound_point : (h : Bool) (u : ℕ) (z : Text) → which h u z ≡ AtPoint → FrontIs h (u ∷ z) (code.point z)
+  pub sound_point : (h : Bool) (z : Text) → which h 46 z ≡ AtPoint → is_digit (slice_index z 0) ≡ true → FrontIs h (46 ∷ z) (code.point z)
   pub only : (h : Bool) (n : Number) (z : Text) (r : Reading) → IsNumber n → IsLongest h (Numeric n) z → ReadsNumber n z r → front_at h (number_units n ++ z) ≡ front_for r (length (number_units n))
 
 by_cond : {A : Type 0} (P : A → Type 0) (r : Bool) (x y : A) → (r ≡ true → P x) → (r ≡ false → P y) → P (cond r x y)
@@ -55,6 +55,9 @@ fine_sign h u z a b =
       brace = λ e. sym (ap (λ (r : Bool). r && h) (eq-eqb u 125 e)) ∙ b;
     }
 
+at_point_ : NumberLaws → (h : Bool) (u : ℕ) (z : Text) → u ≡ 46 → is_digit (slice_index z 0) ≡ true → which h u z ≡ AtPoint → FrontIs h (u ∷ z) (code.point z)
+at_point_ laws h u z e d k = subst (λ (v : ℕ). FrontIs h (v ∷ z) (code.point z)) (sym e) (laws.sound_point h z (subst (λ (v : ℕ). which h v z ≡ AtPoint) e k) d)
+
 pub front_sound : NumberLaws → (h : Bool) (u : ℕ) (z : Text) → FrontIs h (u ∷ z) (code.front_of h u z)
 front_sound laws h u z =
     by_cond (FrontIs h (u ∷ z)) (is_line_end u) _ _ (λ y. inl (found_line_end h u z y)) (λ a.
@@ -65,7 +68,7 @@ front_sound laws h u z =
     by_cond (FrontIs h (u ∷ z)) (u == 125 && h) _ _ (λ y. found_part h false u z (cond_no _ _ _ a ∙ cond_no _ _ _ b ∙ cond_no _ _ _ c ∙ cond_no _ _ _ d ∙ cond_no _ _ _ e ∙ cond_yes _ _ _ y) (eqb-true u 125 (and_first (u == 125) h y)) (inr (and_second (u == 125) h y))) (λ f.
     by_cond (FrontIs h (u ∷ z)) (is_digit u) _ _ (λ y. laws.sound h u z (cond_no _ _ _ a ∙ cond_no _ _ _ b ∙ cond_no _ _ _ c ∙ cond_no _ _ _ d ∙ cond_no _ _ _ e ∙ cond_no _ _ _ f ∙ cond_yes _ _ _ y)) (λ g.
     by_cond (FrontIs h (u ∷ z)) (is_name u) _ _ (λ y. inl (found_word h u z (cond_no _ _ _ a ∙ cond_no _ _ _ b ∙ cond_no _ _ _ c ∙ cond_no _ _ _ d ∙ cond_no _ _ _ e ∙ cond_no _ _ _ f ∙ cond_no _ _ _ g ∙ cond_yes _ _ _ y))) (λ i.
-    by_cond (FrontIs h (u ∷ z)) (u == 46 && is_digit (slice_index z 0)) _ _ (λ y. laws.sound_point h u z (cond_no _ _ _ a ∙ cond_no _ _ _ b ∙ cond_no _ _ _ c ∙ cond_no _ _ _ d ∙ cond_no _ _ _ e ∙ cond_no _ _ _ f ∙ cond_no _ _ _ g ∙ cond_no _ _ _ i ∙ cond_yes _ _ _ y)) (λ j.
+    by_cond (FrontIs h (u ∷ z)) (u == 46 && is_digit (slice_index z 0)) _ _ (λ y. at_point_ laws h u z (eqb-true u 46 (and_first (u == 46) (is_digit (slice_index z 0)) y)) (and_second (u == 46) (is_digit (slice_index z 0)) y) (cond_no _ _ _ a ∙ cond_no _ _ _ b ∙ cond_no _ _ _ c ∙ cond_no _ _ _ d ∙ cond_no _ _ _ e ∙ cond_no _ _ _ f ∙ cond_no _ _ _ g ∙ cond_no _ _ _ i ∙ cond_yes _ _ _ y)) (λ j.
     by_cond (FrontIs h (u ∷ z)) (u == 47) _ _ (λ y. subst (λ (v : ℕ). FrontIs h (v ∷ z) (code.slash z)) (sym (eqb-true u 47 y)) (found_slash h z)) (λ k.
     found_sign h u z (fine_sign h u z k f) (λ x more s t. sign_at x more (sort_of h x more u z s t ∙ (cond_no _ _ _ a ∙ cond_no _ _ _ b ∙ cond_no _ _ _ c ∙ cond_no _ _ _ d ∙ cond_no _ _ _ e ∙ cond_no _ _ _ f ∙ cond_no _ _ _ g ∙ cond_no _ _ _ i ∙ cond_no _ _ _ j ∙ cond_no _ _ _ k)))))))))))))
 
@@ -81,11 +84,11 @@ same_units h t d e x y s l p b =
     let n = b.longest d x s (sym k) in
     same_front (units e) (units d) y x k (omega (arith, m, n))
 
-abbrev no_point : Text → Bool
+abbrev pub no_point : Text → Bool
 no_point (a ∷ b ∷ v) = not (a == 46 && is_digit b)
 no_point _ = true
 
-no_points : all_of (λ (r : Row). no_point r.0) punctuators ≡ true
+pub no_points : all_of (λ (r : Row). no_point r.0) punctuators ≡ true
 no_points = refl
 
 point_no_row : (w : Text) (p : Punctuator) (ds x : Text) → In (w, p) punctuators → Every (Passes is_digit) ds → 1 ≤ length ds → 46 ∷ (ds ++ x) ≡ w → ⊥

@@ -14,3 +14,4 @@ pub mod Comments
 pub mod Fronts
 pub mod LexLaws
 pub mod Exponents
+pub mod Points
