@@ -15,3 +15,4 @@ pub mod Fronts
 pub mod LexLaws
 pub mod Exponents
 pub mod Points
+pub mod Tails
