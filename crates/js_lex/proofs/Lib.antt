@@ -16,3 +16,4 @@ pub mod LexLaws
 pub mod Exponents
 pub mod Points
 pub mod Tails
+pub mod Decimals

@@ -32,7 +32,7 @@ pub index_at : (a y : Text) → slice_index (a ++ y) (length a) ≡ slice_index 
 index_at [] y = refl
 index_at (u ∷ a) y = index_at a y
 
-letter_no_digit : (e : ℕ) → (e == 101 || e == 69) ≡ true → is_digit e ≡ false
+pub letter_no_digit : (e : ℕ) → (e == 101 || e == 69) ≡ true → is_digit e ≡ false
 letter_no_digit e h = elim (or_split (e == 101) (e == 69) h) [
   | inl y ↦ ap is_digit (eqb-true e 101 y)
   | inr y ↦ ap is_digit (eqb-true e 69 y)
