@@ -1,11 +1,11 @@
 -- Decimal integers, with what stands behind them.
-use Rattle.std.proofs.Common.{◌≡◌, ℕ, suc, ◌+◌, ◌≤◌, true, false, [], ◌∷◌, ◌++◌, take, drop, length, refl, sym, ◌∙◌, ap, subst, arith, append_assoc}
+use Rattle.std.proofs.Common.{◌≡◌, ℕ, ◌+◌, ◌≤◌, [], ◌∷◌, ◌++◌, take, drop, length, refl, sym, ◌∙◌, ap, arith, append_assoc}
 use Rattle.std.proofs.lemmas.List.{length-append}
 use Rattle.js_lex.specs.Units.{Text, is_digit}
 use Rattle.js_lex.specs.Grammar.{Every, Passes, NotNext, Exponent, NoExponent, Exponential, exponent_units, IsExponent, Fraction, NoFraction, Fractional, fraction_units, IsFraction}
-use Rattle.js_lex.proofs.Runs.{run, run_passes, run_least, run_exact, run_length, both_parts, drop_here}
+use Rattle.js_lex.proofs.Runs.{run, run_least, run_exact, run_length, both_parts, drop_here}
 use Rattle.js_lex.proofs.Points.{letter_no_digit}
-use Rattle.js_lex.proofs.Tails.{extent, Tails, tails, tail_bound}
+use Rattle.js_lex.proofs.Tails.{extent, tails, tail_bound}
 
 -- behind all the digits
 abbrev pub behind : Text → Text

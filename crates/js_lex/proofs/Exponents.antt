@@ -1,13 +1,12 @@
 -- The exponents of numbers.
-use Rattle.std.proofs.Common.{◌≡◌, ℕ, zero, suc, ◌+◌, ◌≤◌, Bool, true, false, cond, List, [], ◌∷◌, ◌++◌, take, drop, length, refl, sym, ◌∙◌, ap, subst, arith, append_assoc, inl, inr}
+use Rattle.std.proofs.Common.{◌≡◌, ℕ, suc, ◌+◌, ◌≤◌, Bool, true, false, cond, [], ◌∷◌, ◌++◌, take, drop, length, refl, sym, ◌∙◌, ap, subst, arith, inl, inr}
 use Rattle.std.specs.Prelude.{◌==◌, ◌&&◌, ◌||◌, nat_le, slice_index}
 use Rattle.std.proofs.lemmas.Bool.{eqb-true, le-leb}
-use Rattle.std.proofs.lemmas.List.{length-append}
 use Rattle.std.proofs.Math.Dec.{leb-suc-suc}
 use Rattle.js_lex.specs.declared.units.Class.TheVariants as class
 use Rattle.js_lex.specs.Units.{Text, is_digit, past}
 use Rattle.js_lex.specs.Front.{begins_exponent, past_exponent}
-use Rattle.js_lex.specs.Grammar.{In, Every, Passes, Digits, Exponent, NoExponent, Exponential, exponent_units, IsExponent}
+use Rattle.js_lex.specs.Grammar.{In, Digits, Exponent, NoExponent, Exponential, exponent_units, IsExponent}
 use Rattle.js_lex.proofs.Truths.{cond_yes, cond_no, cond_ap, either, and_first, and_second, and_both, or_split, or_yes_first, or_yes_second}
 use Rattle.js_lex.proofs.Runs.{run, run_passes, run_least, run_length, both_parts}
 use Rattle.js_lex.proofs.Signs.{no_truth}

@@ -1,24 +1,23 @@
 -- Fractions that begin with their point.
-use Rattle.std.proofs.Common.{◌≡◌, ℕ, zero, suc, ◌+◌, ◌≤◌, Bool, true, false, cond, List, [], ◌∷◌, ◌++◌, take, drop, length, Option, None, refl, sym, ◌∙◌, ap, subst, arith, append_assoc, ◌⊎◌, inl, inr}
+use Rattle.std.proofs.Common.{◌≡◌, ℕ, ◌+◌, ◌≤◌, Bool, true, false, [], ◌∷◌, ◌++◌, take, drop, length, Option, None, refl, sym, ◌∙◌, ap, subst, arith, append_assoc, inl, inr}
 use Rattle.std.specs.Prelude.{◌==◌, ◌&&◌, ◌||◌, slice_index}
 use Rattle.std.proofs.lemmas.Bool.{eq-eqb, eqb-true}
 use Rattle.std.proofs.lemmas.List.{length-append}
 use Rattle.js_lex.specs.declared.token.Punctuator.{Punctuator}
 use Rattle.js_lex.specs.declared.units.Class.TheVariants as class
-use Rattle.js_lex.specs.declared.front.Front.{Front}
 use Rattle.js_lex.specs.declared.front.Front.TheVariants as front
 use Rattle.js_lex.specs.declared.front.Unread.TheVariants as bad
 use Rattle.js_lex.specs.Tables.{punctuators}
 use Rattle.js_lex.specs.Units.{Text, is_digit, is_name, past}
 use Rattle.js_lex.specs.Front as code
-use Rattle.js_lex.specs.Grammar.{In, Every, Passes, Digits, NotNext, Number, Decimal, Point, Big, Based, number_units, Exponent, NoExponent, Exponential, exponent_units, IsExponent, Element, White, LineEnd, LineComment, BlockComment, Word, Numeric, String, Part, Sign, units, Stands, Begins, Reading, Gap, Token, Refused, number_value, ReadsValue, ReadsNumber}
+use Rattle.js_lex.specs.Grammar.{In, Every, Passes, NotNext, Number, Decimal, Point, Big, Based, number_units, Exponent, NoExponent, Exponential, exponent_units, IsExponent, Element, White, LineEnd, LineComment, BlockComment, Word, Numeric, String, Part, Sign, units, Stands, Reading, Refused, number_value, ReadsValue, ReadsNumber}
 use Rattle.js_lex.proofs.Truths.{cond_yes, cond_no, either, and_both, not_yes, or_split, in_all}
-use Rattle.js_lex.proofs.Which.{Which, AtPoint, which, sort}
+use Rattle.js_lex.proofs.Which.{AtPoint, which, sort}
 use Rattle.js_lex.proofs.Runs.{run, run_passes, run_least, run_exact, run_length, both_parts, drop_here}
-use Rattle.js_lex.proofs.Longest.{Found, FrontIs, sort_of, front_for}
+use Rattle.js_lex.proofs.Longest.{FrontIs, sort_of, front_for}
 use Rattle.js_lex.proofs.Signs.{no_truth, Row}
 use Rattle.js_lex.proofs.Fronts.{no_point, no_points}
-use Rattle.js_lex.proofs.Exponents.{exponent_behind, exponent_bound, Exponents, exponents}
+use Rattle.js_lex.proofs.Exponents.{exponent_behind, exponent_bound, exponents}
 
 not_next : (f : ℕ → Bool) (z : Text) → f 0 ≡ false → NotNext f z → f (slice_index z 0) ≡ false
 not_next f [] a h = a
@@ -100,8 +99,8 @@ found_point h z w d =
     let size : length (take (run is_digit z) z ++ exponent_units x.exponent) ≡ run is_digit z + code.past_exponent (drop (run is_digit z) z) 0 = omega (arith, length-append (take (run is_digit z) z) (exponent_units x.exponent), run_length is_digit z, x.size) in
     let start : past class.Digit z 0 ≡ length (take (run is_digit z) z) = omega (arith, run_length is_digit z) in
     let at : code.past_exponent z (past class.Digit z 0) ≡ length (take (run is_digit z) z ++ exponent_units x.exponent) =
-      ap (code.past_exponent z) start ∙ ap (λ (y : Text). code.past_exponent y (length (take (run is_digit z) z))) (sym (both_parts (run is_digit z) z)) ∙ exponent_behind (take (run is_digit z) z) (drop (run is_digit z) z)
-      ∙ omega (arith, size, run_length is_digit z) in
+    ap (code.past_exponent z) start ∙ ap (λ (y : Text). code.past_exponent y (length (take (run is_digit z) z))) (sym (both_parts (run is_digit z) z)) ∙ exponent_behind (take (run is_digit z) z) (drop (run is_digit z) z)
+    ∙ omega (arith, size, run_length is_digit z) in
     let index : slice_index z (code.past_exponent z (past class.Digit z 0)) ≡ slice_index x.rest 0 = ap (slice_index z) at ∙ ap (λ (y : Text). slice_index y (length (take (run is_digit z) z ++ exponent_units x.exponent))) text ∙ index_at (take (run is_digit z) z ++ exponent_units x.exponent) x.rest in
     let r = ended_reading (Point (take (run is_digit z) z) x.exponent) z (code.past_exponent z (past class.Digit z 0)) x.rest index refl in
     let whole : 46 ∷ z ≡ 46 ∷ ((take (run is_digit z) z ++ exponent_units x.exponent) ++ x.rest) = ap (λ (y : Text). 46 ∷ y) text in
@@ -113,8 +112,8 @@ found_point h z w d =
         is_text = whole;
         stands = ((run_passes is_digit z, omega (arith, first_run z d, run_length is_digit z)), x.is);
         longest = λ f more s k.
-          let b = point_bound h f more z (sort_of h f more 46 z s (k ∙ sym whole) ∙ w) s (k ∙ sym whole) d in
-          omega (arith, b, size);
+            let b = point_bound h f more z (sort_of h f more 46 z s (k ∙ sym whole) ∙ w) s (k ∙ sym whole) d in
+            omega (arith, b, size);
       };
       reads = r.1;
       is = r.2;

@@ -1,15 +1,15 @@
 -- The fraction and the exponent behind an integer.
-use Rattle.std.proofs.Common.{◌≡◌, ℕ, ◌+◌, ◌≤◌, true, false, cond, [], ◌∷◌, ◌++◌, take, drop, length, refl, sym, ◌∙◌, ap, subst, arith, append_assoc, inl, inr}
+use Rattle.std.proofs.Common.{◌≡◌, ℕ, ◌+◌, ◌≤◌, true, false, [], ◌∷◌, ◌++◌, take, drop, length, refl, sym, ◌∙◌, ap, subst, arith, append_assoc, inl, inr}
 use Rattle.std.specs.Prelude.{◌==◌, ◌||◌, slice_index}
 use Rattle.std.proofs.lemmas.Bool.{eqb-true}
 use Rattle.std.proofs.lemmas.List.{length-append}
 use Rattle.js_lex.specs.declared.units.Class.TheVariants as class
 use Rattle.js_lex.specs.Units.{Text, is_digit, past}
 use Rattle.js_lex.specs.Front.{past_fraction, past_exponent}
-use Rattle.js_lex.specs.Grammar.{Every, Passes, Exponent, NoExponent, Exponential, exponent_units, IsExponent, Fraction, NoFraction, Fractional, fraction_units, IsFraction}
+use Rattle.js_lex.specs.Grammar.{Exponent, NoExponent, Exponential, exponent_units, IsExponent, Fraction, NoFraction, Fractional, fraction_units, IsFraction}
 use Rattle.js_lex.proofs.Truths.{cond_no, either, or_split}
 use Rattle.js_lex.proofs.Runs.{run, run_passes, run_length, both_parts}
-use Rattle.js_lex.proofs.Exponents.{exponent_behind, exponent_bound, Exponents, exponents}
+use Rattle.js_lex.proofs.Exponents.{exponent_behind, exponent_bound, exponents}
 use Rattle.js_lex.proofs.Points.{digits_bound}
 
 -- where the code's fraction and exponent end
