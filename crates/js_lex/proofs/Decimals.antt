@@ -1,7 +1,12 @@
 -- Decimal integers, with what stands behind them.
-use Rattle.std.proofs.Common.{◌≡◌, ℕ, ◌+◌, ◌≤◌, [], ◌∷◌, ◌++◌, take, drop, length, refl, sym, ◌∙◌, ap, arith, append_assoc}
+use Rattle.std.proofs.Common.{◌≡◌, ℕ, suc, ◌+◌, ◌≤◌, [], ◌∷◌, ◌++◌, take, drop, length, refl, sym, ◌∙◌, ap, arith, append_assoc}
+use Rattle.std.specs.Prelude.{cond, ◌==◌, slice_index}
 use Rattle.std.proofs.lemmas.List.{length-append}
-use Rattle.js_lex.specs.Units.{Text, is_digit}
+use Rattle.js_lex.specs.declared.units.Class.TheVariants as class
+use Rattle.js_lex.specs.Front.{past_fraction, past_exponent}
+use Rattle.js_lex.proofs.Truths.{cond_ap}
+use Rattle.js_lex.proofs.Exponents.{plus_suc, past_suc, exponent_suc}
+use Rattle.js_lex.specs.Units.{Text, is_digit, past}
 use Rattle.js_lex.specs.Grammar.{Every, Passes, NotNext, Exponent, NoExponent, Exponential, exponent_units, IsExponent, Fraction, NoFraction, Fractional, fraction_units, IsFraction}
 use Rattle.js_lex.proofs.Runs.{run, run_least, run_exact, run_length, both_parts, drop_here}
 use Rattle.js_lex.proofs.Points.{letter_no_digit}
@@ -56,3 +61,15 @@ decimals z =
       is_exponent = t.is_exponent;
       size = omega (arith, t.size, run_length is_digit z, length-append (take (run is_digit z) z) (fraction_units t.fraction ++ exponent_units t.exponent));
     }
+
+-- ---- the code's end of a decimal
+
+fraction_suc : (x : ℕ) (z : Text) (n : ℕ) → past_fraction (x ∷ z) (suc n) ≡ suc (past_fraction z n)
+fraction_suc x z n =
+    ap (λ (m : ℕ). cond (slice_index z n == 46) m (suc n)) (ap (past class.Digit (x ∷ z)) (plus_suc n 1) ∙ past_suc x z (n + 1))
+    ∙ sym (cond_ap suc (slice_index z n == 46) (past class.Digit z (n + 1)) n)
+
+pub ends_behind : (a y : Text) → past_exponent (a ++ y) (past_fraction (a ++ y) (length a)) ≡ length a + extent y
+ends_behind [] y = omega arith
+ends_behind (x ∷ a) y =
+    ap (past_exponent (x ∷ (a ++ y))) (fraction_suc x (a ++ y) (length a)) ∙ exponent_suc x (a ++ y) (past_fraction (a ++ y) (length a)) ∙ ap suc (ends_behind a y) ∙ omega arith

@@ -13,7 +13,7 @@ use Rattle.js_lex.proofs.Signs.{no_truth}
 
 -- ---- behind a first unit
 
-plus_suc : (n k : ℕ) → suc n + k ≡ suc (n + k)
+pub plus_suc : (n k : ℕ) → suc n + k ≡ suc (n + k)
 plus_suc n k = omega arith
 
 abbrev tests : Text → ℕ → ℕ → ℕ → ℕ → Bool
@@ -26,10 +26,10 @@ begins_suc x z n =
     ∙ ap (λ (k : ℕ). tests (x ∷ z) (slice_index z n) (suc (n + 2)) (suc (n + 1)) k) (plus_suc n 2)
     ∙ ap (λ (r : Bool). r && ((slice_index z n == 101 || slice_index z n == 69) && (is_digit (slice_index z (n + 1)) || ((slice_index z (n + 1) == 43 || slice_index z (n + 1) == 45) && is_digit (slice_index z (n + 2)))))) (leb-suc-suc (n + 2) (length z))
 
-past_suc : (x : ℕ) (z : Text) (n : ℕ) → past class.Digit (x ∷ z) (suc n) ≡ suc (past class.Digit z n)
+pub past_suc : (x : ℕ) (z : Text) (n : ℕ) → past class.Digit (x ∷ z) (suc n) ≡ suc (past class.Digit z n)
 past_suc x z n = omega arith
 
-exponent_suc : (x : ℕ) (z : Text) (n : ℕ) → past_exponent (x ∷ z) (suc n) ≡ suc (past_exponent z n)
+pub exponent_suc : (x : ℕ) (z : Text) (n : ℕ) → past_exponent (x ∷ z) (suc n) ≡ suc (past_exponent z n)
 exponent_suc x z n =
     ap (λ (r : Bool). cond r (past class.Digit (x ∷ z) (suc n + 2)) (suc n)) (begins_suc x z n)
     ∙ ap (λ (m : ℕ). cond (begins_exponent z n) m (suc n)) (ap (past class.Digit (x ∷ z)) (plus_suc n 2) ∙ past_suc x z (n + 2))
