@@ -37,13 +37,21 @@ fn names_and_keys_are_compared_and_copied(rt: HostRuntime) -> Result<(), Fail> {
     Ok(())
 }
 
-/// What the expression is written to as: 1 a variable, 2 a field, 3 an item, and 0 nothing.
-fn target(expr: Expr) -> u8 {
+/// The kinds of what can be written to.
+#[derive(Clone, Copy, Debug, PartialEq, Eq)]
+enum Kind {
+    Variable,
+    Field,
+    Item,
+}
+
+/// What the expression is written to as, where it can be written to.
+fn target(expr: Expr) -> Option<Kind> {
     match expr.into_target() {
-        Ok(Target::Variable(_)) => 1,
-        Ok(Target::Field(..)) => 2,
-        Ok(Target::Item(..)) => 3,
-        Err(_) => 0,
+        Ok(Target::Variable(_)) => Some(Kind::Variable),
+        Ok(Target::Field(..)) => Some(Kind::Field),
+        Ok(Target::Item(..)) => Some(Kind::Item),
+        Err(_) => None,
     }
 }
 
@@ -72,10 +80,10 @@ fn group(alloc: Global) -> Result<Expr, NoMemory> {
 #[test]
 fn a_name_or_a_member_can_be_written_to(rt: HostRuntime) -> Result<(), Fail> {
     let alloc = rt.alloc();
-    assert_eq!(rt; target(Expr::Name(name(alloc, 0, &[97])?)), 1);
-    assert_eq!(rt; target(field(alloc)?), 2);
-    assert_eq!(rt; target(item(alloc)?), 3);
-    assert_eq!(rt; target(group(alloc)?), 0);
-    assert_eq!(rt; target(Expr::Null), 0);
+    assert!(rt; target(Expr::Name(name(alloc, 0, &[97])?)) == Some(Kind::Variable));
+    assert!(rt; target(field(alloc)?) == Some(Kind::Field));
+    assert!(rt; target(item(alloc)?) == Some(Kind::Item));
+    assert!(rt; target(group(alloc)?) == None);
+    assert!(rt; target(Expr::Null) == None);
     Ok(())
 }
