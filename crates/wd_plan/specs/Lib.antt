@@ -1,0 +1,4 @@
+pub mod Command
+pub mod Script
+pub mod Constant
+pub mod Folder
