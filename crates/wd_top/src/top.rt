@@ -1,30 +1,33 @@
-ghost use Rattle.std.specs.Prelude.{◌≡◌, ◌↔◌, ◌⊎◌, [], length, map, string_bytes, None, IfSome, All};
+ghost use Rattle.std.specs.Prelude.{◌≡◌, ◌≢◌, ◌↔◌, ◌⊎◌, [], length, map, string_bytes, None, Some, IfSome, All};
 ghost use Rattle.wd_machine.specs.declared.journal.Head.TheVariants.{Whole};
 ghost use Rattle.wd_ports.specs.Faults.{ReadFile, Rose, RoseIn};
+ghost use Rattle.wd_plan.specs.declared.refusal.Refusal.{Refusal as RefusalIs};
+ghost use Rattle.wd_plan.specs.Command.{command, asked_verb};
+ghost use Rattle.wd_plan.specs.Prepare.{IsPrepared};
+ghost use Rattle.wd_plan.specs.declared.command.Verb.{Verb as VerbIs};
 ghost use Rattle.wd_top.specs.declared.outcome.Outcome.{Outcome as OutcomeIs};
-ghost use Rattle.wd_top.specs.Command.{command};
-ghost use Rattle.wd_top.specs.Ended.{Comes, Ends, Holds, IsStatus, Ran as Runs};
-ghost use Rattle.wd_top.specs.Prepare.{IsPrepared};
+ghost use Rattle.wd_top.specs.Ended.{Call, Caused, Comes, Ends, Holds, IsEarly, IsStatus, Ran as Runs};
+ghost use Rattle.wd_top.specs.Outcome.{Reports};
 ghost use Rattle.wd_top.specs.Table.{SameFiles};
 
 use crate::board::Board;
 use crate::outcome::{Outcome, report};
-use crate::prepare::{Ready, prepare};
 use crate::session::run_ports;
 use std::alloc::Global;
 use std::sync::Wait;
 use std::thread::Threads;
 use wd_base::{NoMemory, Seq};
 use wd_machine::{Head, Journal};
+use wd_plan::{PlanEnd, Ready, Verb, prepare};
 use wd_ports::{Files, Gate, Maker, Sink};
 
 /// How a call ended.
 #[derive(Drop)]
 pub struct Ended<P> {
-    /// The exit status: 0 where the session is done, 1 where the words are no command line, 2 where
-    /// the configuration is refused, 3 where a script is, 4 where the sink failed, 5 where a file
-    /// is missing or a read failed, 7 where no port could be made or one could not listen, and 9
-    /// for want of memory.
+    /// The exit status: 0 where the session is done or the configuration was checked, 1 where the
+    /// words are no command line, 2 where the configuration is refused, 3 where a script is, 4
+    /// where the sink failed, 5 where a file is missing or a read failed, 7 where no port could be
+    /// made or one could not listen, and 9 for want of memory.
     pub status: u8,
     /// The journal of the session; empty where there was none.
     pub journal: Journal,

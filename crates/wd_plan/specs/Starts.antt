@@ -1,0 +1,56 @@
+-- The start of a world's scripts, and what is served of a configuration.
+use Rattle.std.specs.Prelude.{◌≡◌, ℕ, Bool, true, false, ◌&&◌, List, Option, Some, None, [], ◌∷◌, is_none, is_some}
+use Rattle.std.specs.List.{find, list_all}
+use Rattle.std.specs.Option.{option_map}
+use Rattle.wd_base.specs.declared.config.Config.{Config}
+use Rattle.wd_base.specs.declared.config.Form.{Form}
+use Rattle.wd_base.specs.declared.config.Form.TheVariants as form
+use Rattle.wd_base.specs.declared.config.Service.{Service}
+use Rattle.wd_base.specs.declared.config.Socket.{Socket}
+use Rattle.wd_base.specs.declared.config.WorkerDef.{WorkerDef}
+use Rattle.wd_graph.specs.Links.{with_internet}
+use Rattle.wd_graph.specs.Names.{worker_in, worker_at, service_of}
+use Rattle.wd_machine.specs.First.{AreFirst}
+use Rattle.wd_plan.specs.declared.starts.Started.{Started}
+use Rattle.wd_plan.specs.declared.starts.Started.TheVariants.{Isolates, Refused}
+use Rattle.wd_plan.specs.Constant.{constant_means}
+use Rattle.wd_plan.specs.Script.{answer_for}
+
+-- the Worker's script is not read
+abbrev pub is_refused : Option WorkerDef → Bool
+is_refused None = false
+is_refused (Some def) = is_none (answer_for def)
+
+-- the name of the first Worker whose script is not read
+abbrev pub refused_script : List Service → Option (List ℕ)
+refused_script services = option_map (λ s. s.name) (find (λ s. is_refused (worker_in s.kind)) services)
+
+-- the first isolates of the world's Workers, in order, or the first Worker whose script is not read
+abbrev pub Starts : Config → Started → Type 0
+Starts world (Isolates isolates) = AreFirst constant_means world isolates.items × (refused_script world.services ≡ None)
+Starts world (Refused name) = refused_script world.services ≡ Some name
+
+abbrev pub is_module : Form → Bool
+is_module form.Module = true
+is_module form.Script = false
+
+abbrev pub has_none : {X : Type 0} → List X → Bool
+has_none [] = true
+has_none (x ∷ xs) = false
+
+-- a Worker that is served today: a module without bindings
+abbrev pub is_plain_worker : Option WorkerDef → Bool
+is_plain_worker None = false
+is_plain_worker (Some def) = is_module def.form && has_none def.bindings
+
+-- each service is such a Worker
+abbrev pub are_plain : List Service → Bool
+are_plain services = list_all (λ s. is_plain_worker (worker_in s.kind)) services
+
+-- the socket is at a Worker
+abbrev pub is_at_worker : List Service → Socket → Bool
+is_at_worker services socket = is_some (worker_at (service_of socket.service services))
+
+-- what is served today: such Workers alone, and sockets at them
+abbrev pub is_served : Config → Bool
+is_served config = are_plain config.services && list_all (is_at_worker (with_internet config.services)) config.sockets
