@@ -1,2 +1,3 @@
 pub mod ScriptSteps
 pub mod FolderSteps
+pub mod PlanLaws

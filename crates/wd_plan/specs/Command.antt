@@ -1,6 +1,8 @@
 -- What the words of a command line ask for.
 use Rattle.std.specs.Prelude.{ℕ, Bool, true, not, ◌&&◌, ◌||◌, List, [], ◌∷◌, Option, Some, None, codes, bytes_eq, nat_eq, if◌then◌else◌}
 use Rattle.std.specs.List.{starts_with}
+use Rattle.std.specs.Option.{option_map}
+use Rattle.wd_plan.specs.declared.command.CommandLine.{CommandLine}
 use Rattle.wd_plan.specs.declared.command.Verb.{Verb}
 use Rattle.wd_plan.specs.declared.command.Verb.TheVariants as verb
 
@@ -9,6 +11,10 @@ pub record Asked : Type 0 where
   pub verb : Verb
   pub config : List ℕ
   pub constant : Option (List ℕ)
+
+-- what a command line asks for
+abbrev pub asked_of : CommandLine → Asked
+asked_of c = record { verb = c.verb; config = c.config.now; constant = option_map (λ name. name.now) c.constant }
 
 -- the verb that a word is
 abbrev pub verb_of : List ℕ → Option Verb

@@ -1,5 +1,5 @@
 -- What the words and the files ask for.
-use Rattle.std.specs.Prelude.{◌≡◌, ◌⊎◌, ℕ, Bool, true, false, List, Option, Some, None, IfSome, codes}
+use Rattle.std.specs.Prelude.{◌≡◌, ◌⊎◌, ℕ, Bool, true, false, ◌&&◌, List, Option, Some, None, IfSome, codes}
 use Rattle.wd_base.specs.declared.config.Config.{Config}
 use Rattle.wd_config.specs.declared.faults.ConfigFault.{ConfigFault}
 use Rattle.wd_config.specs.declared.faults.ConfigKind.TheVariants.{LeftOut}
@@ -13,7 +13,7 @@ use Rattle.wd_plan.specs.declared.refusal.Refusal.{Refusal}
 use Rattle.wd_plan.specs.declared.refusal.Refusal.TheVariants as refusal
 use Rattle.wd_plan.specs.Command.{Asked, command}
 use Rattle.wd_plan.specs.Folder.{folder}
-use Rattle.wd_plan.specs.Starts.{is_served, refused_script}
+use Rattle.wd_plan.specs.Starts.{are_plain, are_at_workers, refused_script}
 use Rattle.wd_ports.specs.Told.{Stored, file_at}
 
 -- what a call is to do: refuse, or serve or check a world
@@ -25,10 +25,10 @@ pub data Plan : Type 0 where
 abbrev pub other_kind : ConfigFault
 other_kind = record { kind = LeftOut; place = 0; name = codes "kind" }
 
--- whether the verb can do its work with the configuration
-abbrev pub may_start : Verb → Config → Bool
-may_start verb.Serve config = is_served config
-may_start verb.Check config = true
+-- whether the verb goes on with a world, of which each service that is written out is served or is not
+abbrev pub may_go : Verb → Bool → Config → Bool
+may_go verb.Serve plain world = plain && are_at_workers world
+may_go verb.Check plain world = true
 
 -- at the scripts of a world, of which this one is the first that is not read
 abbrev pub at_scripts : Verb → Config → Option (List ℕ) → Plan
@@ -43,7 +43,7 @@ at_kinds v world true = at_scripts v world (refused_script world.services)
 -- at the names of a configuration, of which this one is the first that is unknown
 abbrev pub at_names : Verb → Config → Option GraphFault → Plan
 at_names v config (Some fault) = Refuses (refusal.Link fault)
-at_names v config None = at_kinds v (linked config) (may_start v config)
+at_names v config None = at_kinds v (linked config) (may_go v (are_plain config.services) (linked config))
 
 -- at the configuration, or its first fault
 abbrev pub AtAnswer : Verb → Answer Config → Plan → Type 0
@@ -73,13 +73,13 @@ Plans words files plan = AtCommand files (command words) plan
 abbrev pub HasPath : Read Config → List ℕ → Type 0
 HasPath r path = (f : ConfigFault) × (f.name ≡ path) × HasEmbed r f
 
+-- the reading of these bytes, for a command, comes to an embed of this path
+abbrev pub EmbedsPath : Option Stored → Asked → List ℕ → List ℕ → Type 0
+EmbedsPath files asked bytes path = (r : Read Config) × IsReading files asked bytes r × HasPath r path
+
 -- a file that is embedded in the configuration of a command
-pub record IsEmbedded (files : Option Stored) (asked : Asked) (path : List ℕ) : Type 0 where
-  pub bytes : List ℕ
-  pub stored : IfSome files (λ s. file_at s asked.config ≡ Some bytes)
-  pub reading : Read Config
-  pub reads : IsReading files asked bytes reading
-  pub has : HasPath reading path
+abbrev pub IsEmbedded : Option Stored → Asked → List ℕ → Type 0
+IsEmbedded files asked path = (bytes : List ℕ) × IfSome files (λ s. file_at s asked.config ≡ Some bytes) × EmbedsPath files asked bytes path
 
 -- a file that is read for a command: its configuration, or one that this embeds
 abbrev pub IsReadFor : Option Stored → Asked → List ℕ → Type 0

@@ -1,6 +1,9 @@
 -- What the code came to, against the plan.
 use Rattle.std.specs.Prelude.{◌≡◌, ◌⊎◌, ◌≤◌, ℕ, List, length, Option, Some, None, Result, Ok, Err}
 use Rattle.wd_base.specs.declared.config.Config.{Config}
+use Rattle.wd_config.specs.declared.faults.ConfigFault.{ConfigFault}
+use Rattle.wd_config.specs.declared.faults.ConfigKind.{ConfigKind}
+use Rattle.wd_config.specs.declared.faults.ConfigKind.TheVariants as kind
 use Rattle.wd_graph.specs.Links.{first_unknown}
 use Rattle.wd_machine.specs.First.{AreFirst}
 use Rattle.wd_plan.specs.declared.command.Verb.{Verb}
@@ -36,6 +39,11 @@ IsReadFault _ = ⊥
 pub record IsPrepared (ready : Ready) : Type 0 where
   pub first : AreFirst constant_means ready.world ready.isolates.items
   pub known : first_unknown ready.world ≡ None
+
+-- the refusal of a configuration's fault, by its kind
+abbrev pub fault_refusal : ConfigKind → ConfigFault → Refusal
+fault_refusal kind.EmbedFault fault = refusal.FileFault fault.name
+fault_refusal _ fault = refusal.Config fault
 
 -- the plan that a refusal is, where it does not come of a read that failed
 abbrev pub plan_of_refusal : Refusal → Option Plan

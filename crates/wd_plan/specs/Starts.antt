@@ -8,7 +8,6 @@ use Rattle.wd_base.specs.declared.config.Form.TheVariants as form
 use Rattle.wd_base.specs.declared.config.Service.{Service}
 use Rattle.wd_base.specs.declared.config.Socket.{Socket}
 use Rattle.wd_base.specs.declared.config.WorkerDef.{WorkerDef}
-use Rattle.wd_graph.specs.Links.{with_internet}
 use Rattle.wd_graph.specs.Names.{worker_in, worker_at, service_of}
 use Rattle.wd_machine.specs.First.{AreFirst}
 use Rattle.wd_plan.specs.declared.starts.Started.{Started}
@@ -51,6 +50,6 @@ are_plain services = list_all (λ s. is_plain_worker (worker_in s.kind)) service
 abbrev pub is_at_worker : List Service → Socket → Bool
 is_at_worker services socket = is_some (worker_at (service_of socket.service services))
 
--- what is served today: such Workers alone, and sockets at them
-abbrev pub is_served : Config → Bool
-is_served config = are_plain config.services && list_all (is_at_worker (with_internet config.services)) config.sockets
+-- each socket is at a Worker
+abbrev pub are_at_workers : Config → Bool
+are_at_workers world = list_all (is_at_worker world.services) world.sockets

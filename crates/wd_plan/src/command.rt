@@ -1,5 +1,5 @@
 ghost use Rattle.std.specs.Prelude.{◌≡◌, map, string_bytes, option_map};
-ghost use Rattle.wd_plan.specs.Command.{command, verb_of, is_positional, with_threads, asked, may_stand};
+ghost use Rattle.wd_plan.specs.Command.{command, asked_of, verb_of, is_positional, with_threads, asked, may_stand};
 
 /// What a command does.
 #[derive(Clone, Copy, Debug, PartialEq, Eq)]
@@ -24,7 +24,7 @@ pub struct CommandLine<'a> {
 /// `check <config> [<const>]`. Neither positional word begins with `-`, but for `-` itself. Other
 /// words are none.
 pub fn command_of(words: &[String]) -> Option<CommandLine<'_>>
-    ensures { option_map (λ c. record { verb = c.verb; config = c.config.now; constant = option_map (λ name. name.now) c.constant }) result ≡ command (map string_bytes words.now) }
+    ensures { option_map asked_of result ≡ command (map string_bytes words.now) }
 {
     match words {
         [verb, config] => asked(verb_of(verb.as_str()), config.as_str(), None),
@@ -88,7 +88,7 @@ fn asked<'a>(
     config: &'a str,
     constant: Option<&'a str>,
 ) -> Option<CommandLine<'a>>
-    ensures { option_map (λ c. record { verb = c.verb; config = c.config.now; constant = option_map (λ name. name.now) c.constant }) result ≡ asked verb config.now (option_map (λ name. name.now) constant.entry) }
+    ensures { option_map asked_of result ≡ asked verb config.now (option_map (λ name. name.now) constant.entry) }
 {
     let verb = verb?;
     if is_positional(config) && may_stand(constant) {

@@ -5,8 +5,12 @@
 mod command;
 mod constant;
 mod folder;
+mod prepare;
+mod refusal;
 mod script;
+mod starts;
 
-pub use command::{CommandLine, Verb, command_of};
+pub use command::Verb;
 pub use constant::Constant;
-pub use folder::folder_of;
+pub use prepare::{PlanEnd, Ready, prepare};
+pub use refusal::{Refusal, framed};

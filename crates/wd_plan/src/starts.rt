@@ -1,10 +1,9 @@
 ghost use Rattle.std.specs.Prelude.{◌≡◌, ◌<◌, [], ◌∷◌, ◌++◌, length, IfOk, OnOk, Some, slice_get, is_none, option_map};
-ghost use Rattle.std.specs.List.{list_all};
 ghost use Rattle.wd_graph.specs.Graph.{workers_in};
 ghost use Rattle.wd_graph.specs.Names.{worker_at, worker_in};
 ghost use Rattle.wd_plan.specs.Constant.{first_constant};
 ghost use Rattle.wd_plan.specs.Script.{answer_for};
-ghost use Rattle.wd_plan.specs.Starts.{Starts, are_plain, is_at_worker, is_plain_worker};
+ghost use Rattle.wd_plan.specs.Starts.{Starts, are_plain, are_at_workers, is_at_worker, is_plain_worker};
 
 use crate::constant::Constant;
 use crate::script::answer_for;
@@ -91,7 +90,7 @@ fn is_plain(service: &Service) -> bool
 
 /// Each socket is at a Worker.
 pub fn are_at_workers(world: &World) -> bool
-    ensures { result ≡ list_all (is_at_worker world.now.services) world.now.sockets }
+    ensures { result ≡ are_at_workers world.now }
 {
     world
         .sockets()
