@@ -1,9 +1,12 @@
 //! The world that a configuration describes: its services by number and by name, and its sockets.
 #![tactic(auto)]
 
+mod directory;
 mod linking;
 #[cfg(test)]
 mod tests;
+mod walk;
+mod workers;
 mod world;
 
 pub use linking::{GraphFault, LinkEnd, link};
