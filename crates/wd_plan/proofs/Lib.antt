@@ -1,3 +1,4 @@
 pub mod ScriptSteps
 pub mod FolderSteps
 pub mod PlanLaws
+pub mod StartSteps

@@ -1,17 +1,19 @@
 -- What the code came to, against the plan.
 use Rattle.std.specs.Prelude.{◌≡◌, ◌⊎◌, ◌≤◌, ℕ, List, length, Option, Some, None, Result, Ok, Err}
 use Rattle.wd_base.specs.declared.config.Config.{Config}
+use Rattle.wd_config.specs.declared.faults.ConfigEnd.{ConfigEnd}
+use Rattle.wd_config.specs.declared.faults.ConfigEnd.TheVariants as config_end
 use Rattle.wd_config.specs.declared.faults.ConfigFault.{ConfigFault}
 use Rattle.wd_config.specs.declared.faults.ConfigKind.{ConfigKind}
 use Rattle.wd_config.specs.declared.faults.ConfigKind.TheVariants as kind
 use Rattle.wd_graph.specs.Links.{first_unknown}
 use Rattle.wd_machine.specs.First.{AreFirst}
 use Rattle.wd_plan.specs.declared.command.Verb.{Verb}
-use Rattle.wd_plan.specs.declared.prepare.Found.{Found}
-use Rattle.wd_plan.specs.declared.prepare.Found.TheVariants as found
-use Rattle.wd_plan.specs.declared.prepare.PlanEnd.{PlanEnd}
-use Rattle.wd_plan.specs.declared.prepare.PlanEnd.TheVariants as end
-use Rattle.wd_plan.specs.declared.prepare.Ready.{Ready}
+use Rattle.wd_plan.specs.declared.ready.Found.{Found}
+use Rattle.wd_plan.specs.declared.ready.Found.TheVariants as found
+use Rattle.wd_plan.specs.declared.ready.PlanEnd.{PlanEnd}
+use Rattle.wd_plan.specs.declared.ready.PlanEnd.TheVariants as end
+use Rattle.wd_plan.specs.declared.ready.Ready.{Ready}
 use Rattle.wd_plan.specs.declared.refusal.Refusal.{Refusal}
 use Rattle.wd_plan.specs.declared.refusal.Refusal.TheVariants as refusal
 use Rattle.wd_plan.specs.Command.{Asked}
@@ -44,6 +46,11 @@ pub record IsPrepared (ready : Ready) : Type 0 where
 abbrev pub fault_refusal : ConfigKind → ConfigFault → Refusal
 fault_refusal kind.EmbedFault fault = refusal.FileFault fault.name
 fault_refusal _ fault = refusal.Config fault
+
+-- what a configuration's end comes to
+abbrev pub end_of : ConfigEnd → PlanEnd
+end_of (config_end.Fault fault) = end.Refused (fault_refusal fault.kind fault)
+end_of config_end.NoMemory = end.NoMemory
 
 -- the plan that a refusal is, where it does not come of a read that failed
 abbrev pub plan_of_refusal : Refusal → Option Plan
@@ -80,3 +87,16 @@ IsAskedBy (Some asked) v = v ≡ asked.verb
 -- refused so, or memory was wanting
 abbrev pub IsRefused : Refusal → PlanEnd → Type 0
 IsRefused why e = (e ≡ end.Refused why) ⊎ (e ≡ end.NoMemory)
+
+-- a refusal behind the command line
+abbrev pub IsLateRefusal : Refusal → Type 0
+IsLateRefusal refusal.CommandLine = ⊥
+IsLateRefusal _ = Unit {0}
+
+abbrev pub IsLateEnd : PlanEnd → Type 0
+IsLateEnd (end.Refused why) = IsLateRefusal why
+IsLateEnd end.NoMemory = Unit {0}
+
+abbrev pub IsLate : Result Ready PlanEnd → Type 0
+IsLate (Ok ready) = Unit {0}
+IsLate (Err e) = IsLateEnd e

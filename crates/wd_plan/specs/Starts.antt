@@ -1,5 +1,5 @@
 -- The start of a world's scripts, and what is served of a configuration.
-use Rattle.std.specs.Prelude.{◌≡◌, ℕ, Bool, true, false, ◌&&◌, List, Option, Some, None, [], ◌∷◌, is_none, is_some}
+use Rattle.std.specs.Prelude.{◌≡◌, ℕ, Bool, true, false, ◌&&◌, List, [], ◌∷◌, ◌++◌, map, drop, Option, Some, None, is_none, is_some}
 use Rattle.std.specs.List.{find, list_all}
 use Rattle.std.specs.Option.{option_map}
 use Rattle.wd_base.specs.declared.config.Config.{Config}
@@ -9,7 +9,8 @@ use Rattle.wd_base.specs.declared.config.Service.{Service}
 use Rattle.wd_base.specs.declared.config.Socket.{Socket}
 use Rattle.wd_base.specs.declared.config.WorkerDef.{WorkerDef}
 use Rattle.wd_graph.specs.Names.{worker_in, worker_at, service_of}
-use Rattle.wd_machine.specs.First.{AreFirst}
+use Rattle.wd_machine.specs.First.{AreFirst, first_isolate, worker_defs}
+use Rattle.wd_plan.specs.declared.constant.Constant.{Constant}
 use Rattle.wd_plan.specs.declared.starts.Started.{Started}
 use Rattle.wd_plan.specs.declared.starts.Started.TheVariants.{Isolates, Refused}
 use Rattle.wd_plan.specs.Constant.{constant_means}
@@ -28,6 +29,17 @@ refused_script services = option_map (λ s. s.name) (find (λ s. is_refused (wor
 abbrev pub Starts : Config → Started → Type 0
 Starts world (Isolates isolates) = AreFirst constant_means world isolates.items × (refused_script world.services ≡ None)
 Starts world (Refused name) = refused_script world.services ≡ Some name
+
+-- These are the first isolates of the Workers among the first n services, and the first script that is not read, if there is
+-- one, is among the services behind them.
+pub record Starting (services : List Service) (isolates : List Constant) (n : ℕ) : Type 0 where
+  pub made : map (first_isolate constant_means services) (worker_defs services) ≡ map Some isolates ++ map (first_isolate constant_means services) (worker_defs (drop n services))
+  pub left : refused_script services ≡ refused_script (drop n services)
+
+-- the same of one service more, or the first script that is not read is its own
+abbrev pub StartsNext : List Service → List Constant → ℕ → Option (List ℕ) → Type 0
+StartsNext services isolates n None = Starting services isolates n
+StartsNext services isolates n (Some name) = refused_script services ≡ Some name
 
 abbrev pub is_module : Form → Bool
 is_module form.Module = true

@@ -5,12 +5,12 @@
 mod command;
 mod constant;
 mod folder;
-mod prepare;
+mod ready;
 mod refusal;
 mod script;
 mod starts;
 
 pub use command::Verb;
 pub use constant::Constant;
-pub use prepare::{PlanEnd, Ready, prepare};
+pub use ready::{PlanEnd, Ready, prepare};
 pub use refusal::{Refusal, framed};

@@ -1,9 +1,10 @@
-ghost use Rattle.std.specs.Prelude.{◌≡◌, ◌<◌, [], ◌∷◌, ◌++◌, length, IfOk, OnOk, Some, slice_get, is_none, option_map};
+ghost use Rattle.std.specs.Prelude.{◌≡◌, ◌<◌, [], ◌∷◌, ◌++◌, length, ◌+◌, IfOk, OnOk, is_some, slice_get, option_map};
+ghost use Rattle.std.specs.Option.{option_copied};
 ghost use Rattle.wd_graph.specs.Graph.{workers_in};
 ghost use Rattle.wd_graph.specs.Names.{worker_at, worker_in};
 ghost use Rattle.wd_plan.specs.Constant.{first_constant};
 ghost use Rattle.wd_plan.specs.Script.{answer_for};
-ghost use Rattle.wd_plan.specs.Starts.{Starts, are_plain, are_at_workers, is_at_worker, is_plain_worker};
+ghost use Rattle.wd_plan.specs.Starts.{Starting, Starts, StartsNext, are_plain, are_at_workers, is_at_worker, is_plain_worker};
 
 use crate::constant::Constant;
 use crate::script::answer_for;
@@ -43,22 +44,61 @@ fn start(
     }))
 }
 
+/// The Worker that a service is, where it is one.
+fn worker_of(service: &Service) -> Option<&WorkerDef>
+    ensures { option_copied result ≡ worker_in service.now.kind }
+{
+    match &service.kind {
+        Kind::Worker(worker) => Some(worker),
+        _ => None,
+    }
+}
+
+fn is_worker(service: &Service) -> bool
+    ensures { result ≡ is_some (worker_in service.now.kind) }
+{
+    match &service.kind {
+        Kind::Worker(_) => true,
+        _ => false,
+    }
+}
+
+/// Starts the script of a service, where it is a Worker, behind the `isolates` of those before it;
+/// the Worker's name, where its script is not read.
+#[tactic(auto, using(crate::proofs::StartSteps::starting_more, crate::proofs::StartSteps::starting_other, crate::proofs::StartSteps::starting_refused))]
+fn start_next(
+    alloc: Global,
+    world: &World,
+    no: ServiceNo,
+    isolates: &mut Vec<Constant>,
+) -> Result<Option<Bytes>, NoMemory>
+    requires within { no.0 < length world.now.services }
+    requires starting { Starting world.now.services isolates.old.items no.0 }
+    ensures { IfOk result (StartsNext world.now.services isolates.new.items (no.0 + 1)) }
+{
+    let service = world.service(no);
+    let Some(worker) = worker_of(service) else {
+        return Ok(None);
+    };
+    match start(alloc, world, no, worker)? {
+        Some(isolate) => {
+            add(isolates, isolate)?;
+            Ok(None)
+        }
+        None => Ok(Some(service.name.try_clone(alloc)?)),
+    }
+}
+
 /// Starts the scripts of a world's Workers, in order, up to the first that is not read.
+#[tactic(auto, using(crate::proofs::StartSteps::starting_first, crate::proofs::StartSteps::started_all))]
 pub fn start_all(alloc: Global, world: &World) -> Result<Started, NoMemory>
     ensures { IfOk result (λ started. Starts world.now started) }
 {
     let mut isolates = Vec::new(alloc);
-    let mut number = 0;
-    while number < world.count() {
-        let no = ServiceNo(number);
-        let service = world.service(no);
-        if let Kind::Worker(worker) = &service.kind {
-            match start(alloc, world, no, worker)? {
-                Some(isolate) => add(&mut isolates, isolate)?,
-                None => return Ok(Started::Refused(service.name.try_clone(alloc)?)),
-            }
+    for number in 0..world.count() {
+        if let Some(name) = start_next(alloc, world, ServiceNo(number), &mut isolates)? {
+            return Ok(Started::Refused(name));
         }
-        number += 1;
     }
     Ok(Started::Isolates(isolates))
 }
@@ -82,9 +122,9 @@ pub fn are_plain(services: &[Service]) -> bool
 fn is_plain(service: &Service) -> bool
     ensures { result ≡ is_plain_worker (worker_in service.now.kind) }
 {
-    match &service.kind {
-        Kind::Worker(worker) => worker.form == Form::Module && worker.bindings.is_empty(),
-        _ => false,
+    match worker_of(service) {
+        Some(worker) => worker.form == Form::Module && worker.bindings.is_empty(),
+        None => false,
     }
 }
 
@@ -99,11 +139,12 @@ pub fn are_at_workers(world: &World) -> bool
         .all(|socket| is_at_worker(world, socket))
 }
 
+#[tactic(auto, using(crate::proofs::StartSteps::at_worker, crate::proofs::StartSteps::at_nothing, crate::proofs::StartSteps::within))]
 fn is_at_worker(world: &World, socket: &Socket) -> bool
     ensures { result ≡ is_at_worker world.now.services socket.now }
 {
     match world.number(socket.service.as_slice()) {
-        Some(no) => matches!(&world.service(no).kind, Kind::Worker(_)),
+        Some(no) => is_worker(world.service(no)),
         None => false,
     }
 }

@@ -4,11 +4,11 @@ ghost use Rattle.wd_graph.specs.Links.{linked, first_unknown};
 ghost use Rattle.wd_config.specs.Answer.{Differ};
 ghost use Rattle.wd_ports.specs.Faults.{ReadFile, RoseIn, part};
 ghost use Rattle.wd_ports.specs.Told.{file_at};
-ghost use Rattle.wd_plan.specs.declared.prepare.PlanEnd.TheVariants as end;
+ghost use Rattle.wd_plan.specs.declared.ready.PlanEnd.TheVariants as end;
 ghost use Rattle.wd_plan.specs.declared.refusal.Refusal.TheVariants as refusal;
 ghost use Rattle.wd_plan.specs.Command.{command, asked_of};
 ghost use Rattle.wd_plan.specs.Plan.{Plans, AtFile, EmbedsPath, IsReadFor, IsReadPath, at_scripts, at_kinds, at_names, may_go, other_kind};
-ghost use Rattle.wd_plan.specs.Prepare.{ShowsRead, IsShort, IsReadFault, IsPrepared, fault_refusal, plan_of, OnFault, IsAskedBy, IsRefused};
+ghost use Rattle.wd_plan.specs.Prepare.{ShowsRead, IsShort, IsReadFault, IsPrepared, end_of, plan_of, OnFault, IsAskedBy, IsLate, IsRefused};
 ghost use Rattle.wd_plan.specs.Starts.{refused_script};
 
 use crate::command::{CommandLine, Verb, command_of};
@@ -101,6 +101,7 @@ fn at_scripts(alloc: Global, verb: Verb, world: World) -> Result<Ready, PlanEnd>
     requires { first_unknown world ≡ None }
     ensures plan { IfSome (plan_of result) (λ plan. plan ≡ at_scripts verb world (refused_script world.services)) }
     ensures ready { IfOk result IsPrepared }
+    ensures late { IsLate result }
     ensures verb { IfOk result (λ ready. ready.verb ≡ verb) }
     ensures fault { OnFault result (λ path. ⊥) }
 {
@@ -120,6 +121,7 @@ fn at_world(alloc: Global, verb: Verb, plain: bool, world: World) -> Result<Read
     requires { first_unknown world ≡ None }
     ensures plan { IfSome (plan_of result) (λ plan. plan ≡ at_kinds verb world (may_go verb plain world)) }
     ensures ready { IfOk result IsPrepared }
+    ensures late { IsLate result }
     ensures verb { IfOk result (λ ready. ready.verb ≡ verb) }
     ensures fault { OnFault result (λ path. ⊥) }
 {
@@ -142,6 +144,7 @@ fn at_config(alloc: Global, verb: Verb, config: Config) -> Result<Ready, PlanEnd
     requires differ { Differ (map (λ s. s.name) config.services) }
     ensures plan { IfSome (plan_of result) (λ plan. plan ≡ at_names verb config (first_unknown (linked config))) }
     ensures ready { IfOk result IsPrepared }
+    ensures late { IsLate result }
     ensures verb { IfOk result (λ ready. ready.verb ≡ verb) }
     ensures fault { OnFault result (λ path. ⊥) }
 {
@@ -153,13 +156,16 @@ fn at_config(alloc: Global, verb: Verb, config: Config) -> Result<Ready, PlanEnd
     }
 }
 
-/// At the fault of a configuration, which is of the file's where a read of it failed.
-fn at_fault(fault: ConfigFault) -> Refusal
-    ensures { result ≡ fault_refusal fault.kind fault }
+/// At what a configuration is refused for; where an embedded file could not be read, it is that.
+fn at_end(end: ConfigEnd) -> PlanEnd
+    ensures { result ≡ end_of end }
 {
-    match fault.kind {
-        ConfigKind::EmbedFault => Refusal::FileFault(fault.name),
-        _ => Refusal::Config(fault),
+    match end {
+        ConfigEnd::NoMemory => PlanEnd::NoMemory,
+        ConfigEnd::Fault(fault) => match fault.kind {
+            ConfigKind::EmbedFault => PlanEnd::Refused(Refusal::FileFault(fault.name)),
+            _ => PlanEnd::Refused(Refusal::Config(fault)),
+        },
     }
 }
 
@@ -171,18 +177,18 @@ fn at_bytes<F: Files>(
     bytes: &[u8],
 ) -> Result<Ready, PlanEnd>
     requires { length bytes.now ≤ 536870912 }
-    ensures plan { IfSome (F.told files.old).files (λ s. IfSome (plan_of result) (AtFile s (asked_of asked) (Some bytes.now))) }
+    ensures plan { IfSome (F.told files.old).files (λ s. IfSome (plan_of result) (AtFile s (asked_of asked.entry) (Some bytes.now))) }
     ensures ready { IfOk result IsPrepared }
-    ensures verb { IfOk result (λ ready. ready.verb ≡ asked.verb) }
+    ensures late { IsLate result }
+    ensures verb { IfOk result (λ ready. ready.verb ≡ asked.entry.verb) }
     ensures fault { OnFault result (λ path. RoseIn ReadFile (F.faults files.old) (F.faults files.new)) }
-    ensures path { OnFault result (λ path. EmbedsPath (F.told files.old).files (asked_of asked) bytes.now path) }
+    ensures path { OnFault result (λ path. EmbedsPath (F.told files.old).files (asked_of asked.entry) bytes.now path) }
     ensures later { part ReadFile (F.faults files.old) ≤ part ReadFile (F.faults files.new) }
     ensures tells { F.told files.new ≡ F.told files.old }
 {
     match read(alloc, bytes, asked.constant, folder_of(asked.config), files) {
         Ok(config) => at_config(alloc, asked.verb, config),
-        Err(ConfigEnd::NoMemory) => Err(PlanEnd::NoMemory),
-        Err(ConfigEnd::Fault(fault)) => Err(PlanEnd::Refused(at_fault(fault))),
+        Err(end) => Err(at_end(end)),
     }
 }
 
@@ -192,11 +198,12 @@ fn at_file<F: Files>(
     files: &mut F,
     asked: CommandLine<'_>,
 ) -> Result<Ready, PlanEnd>
-    ensures plan { IfSome (F.told files.old).files (λ s. IfSome (plan_of result) (AtFile s (asked_of asked) (file_at s asked.config.now))) }
+    ensures plan { IfSome (F.told files.old).files (λ s. IfSome (plan_of result) (AtFile s (asked_of asked.entry) (file_at s asked.entry.config.now))) }
     ensures ready { IfOk result IsPrepared }
-    ensures verb { IfOk result (λ ready. ready.verb ≡ asked.verb) }
+    ensures late { IsLate result }
+    ensures verb { IfOk result (λ ready. ready.verb ≡ asked.entry.verb) }
     ensures fault { OnFault result (λ path. RoseIn ReadFile (F.faults files.old) (F.faults files.new)) }
-    ensures path { OnFault result (IsReadFor (F.told files.old).files (asked_of asked)) }
+    ensures path { OnFault result (IsReadFor (F.told files.old).files (asked_of asked.entry)) }
     ensures later { part ReadFile (F.faults files.old) ≤ part ReadFile (F.faults files.new) }
     ensures tells { F.told files.new ≡ F.told files.old }
 {
