@@ -1,0 +1,71 @@
+-- Classes of UTF-16 units, and the numbers that digits stand for.
+use Rattle.std.specs.Prelude.{ℕ, ◌+◌, ◌-◌, ◌*◌, Bool, true, false, cond, not, ◌&&◌, ◌||◌, ◌==◌, nat_le, List, [], ◌∷◌, drop, Option, Some, None}
+use Rattle.std.specs.List.{prefix_len}
+use Rattle.js_lex.specs.declared.units.Class.{Class}
+use Rattle.js_lex.specs.declared.units.Class.TheVariants as class
+
+-- units, in order
+abbrev pub Text : Type 0
+Text = List ℕ
+
+abbrev pub is_between : ℕ → ℕ → ℕ → Bool
+is_between low high u = nat_le low u && nat_le u high
+
+-- ECMA-262, section 12.3, LineTerminator: LF, CR, LS, PS
+abbrev pub is_line_end : ℕ → Bool
+is_line_end u = (u == 10 || u == 13) || (u == 8232 || u == 8233)
+
+-- section 12.2, WhiteSpace: tab, VT, FF, ZWNBSP, and Unicode's Space_Separator
+abbrev pub is_white : ℕ → Bool
+is_white u = ((u == 9 || u == 11) || (u == 12 || u == 65279)) || (((u == 32 || u == 160) || (u == 5760 || is_between 8192 8202 u)) || (u == 8239 || (u == 8287 || u == 12288)))
+
+-- section 12.9.3, DecimalDigit
+abbrev pub is_digit : ℕ → Bool
+is_digit u = is_between 48 57 u
+
+-- HexDigit
+abbrev pub is_hex : ℕ → Bool
+is_hex u = is_digit u || (is_between 65 70 u || is_between 97 102 u)
+
+-- section 12.7, IdentifierPart, of ASCII: a letter, a digit, `_` or `$`
+abbrev pub is_part : ℕ → Bool
+is_part u = (is_between 65 90 u || is_between 97 122 u) || (is_digit u || (u == 95 || u == 36))
+
+-- a unit of a name: one of ASCII, or one from 128 on that is neither white space nor a line end
+abbrev pub is_name : ℕ → Bool
+is_name u = is_part u || (nat_le 128 u && not (is_white u || is_line_end u))
+
+abbrev pub is_in : Class → ℕ → Bool
+is_in class.Name u = is_name u
+is_in class.Part u = is_part u
+is_in class.Digit u = is_digit u
+is_in class.Hex u = is_hex u
+is_in class.Octal u = is_between 48 55 u
+is_in class.Binary u = is_between 48 49 u
+is_in class.Line u = not (is_line_end u)
+
+-- the first place from `at` on whose unit is not of the class
+abbrev pub past : Class → Text → ℕ → ℕ
+past c z at = at + prefix_len (is_in c) (drop at z)
+
+-- the value of a digit of any base
+abbrev pub digit_of : ℕ → ℕ
+digit_of u = cond (is_digit u) (u - 48) (cond (is_between 65 70 u) (u - 65 + 10) (cond (is_between 97 102 u) (u - 97 + 10) 0))
+
+-- section 12.9.3.3, MV: the number that digits stand for behind those of n
+abbrev pub value : ℕ → ℕ → Text → ℕ
+value base n [] = n
+value base n (d ∷ ds) = value base (n * base + digit_of d) ds
+
+abbrev pub at_most : ℕ → ℕ → Option ℕ
+at_most max n = cond (nat_le n max) (Some n) None
+
+-- that number, where it is at most `max`
+abbrev pub numeral : ℕ → ℕ → ℕ → Text → Option ℕ
+numeral max base n ds = at_most max (value base n ds)
+
+-- the text begins with the word
+abbrev pub begins : Text → Text → Bool
+begins z [] = true
+begins [] (b ∷ w) = false
+begins (u ∷ z) (b ∷ w) = u == b && begins z w
