@@ -14,9 +14,11 @@ use Rattle.js_lex.specs.declared.letters.Ending.TheVariants as ending
 use Rattle.js_lex.specs.declared.letters.Next.{Next}
 use Rattle.js_lex.specs.declared.letters.Next.TheVariants as next
 use Rattle.js_lex.specs.declared.letters.Body.{Body}
-use Rattle.js_lex.specs.Units.{Text, is_line_end, is_digit, is_hex, past, digit_of, value, numeral}
-use Rattle.js_lex.specs.Letters.{meant, one, encoded, hex_escape, four_digits, of_code, code_point, unicode_escape, escaped, digit_escape, line_units, line_continuation, escape, raw, letter_of, ending_units, read, end_or, next_of, after, joined, body_of}
-use Rattle.js_lex.specs.Grammar.{Every, Passes, NotNext, is, Digits, Character, Plain, Line, Escape, Nul, HexPair, Four, CodePoint, Continued, character_units, character_value, LineEnds, Returns, IsPlain, StandsIn, characters_units, characters_value, AreCharacters, mark, ending_text}
+use Rattle.js_lex.specs.Units.{Text, is_line_end, is_digit, is_hex, digit_of, value}
+use Rattle.js_lex.specs.Runs.{past, numeral}
+use Rattle.js_lex.specs.Values.{meant, encoded, escaped}
+use Rattle.js_lex.specs.Letters.{one, hex_escape, four_digits, of_code, code_point, unicode_escape, digit_escape, line_units, line_continuation, escape, raw, letter_of, ending_units, read, end_or, next_of, after, joined, body_of}
+use Rattle.js_lex.specs.Grammar.{Every, Passes, NotNext, is, HexDigits, Character, Plain, Line, Escape, Nul, HexPair, Four, CodePoint, Continued, character_units, character_value, LineEnds, Returns, IsPlain, StandsIn, characters_units, characters_value, AreCharacters, mark, ending_text}
 use Rattle.js_lex.proofs.LetterLemmas.{body_drop}
 use Rattle.js_lex.proofs.Truths.{cond_yes, cond_no, either, or_no, or_first, or_second, or_split, and_first, and_second, and_both, and_no_first, and_no_second, not_yes, not_no, apart}
 use Rattle.js_lex.proofs.Runs.{run, run_exact, run_passes, run_length, take_here, drop_here, one_behind}
@@ -133,7 +135,7 @@ index_behind : (w : Text) (u : ℕ) (z : Text) → slice_index (w ++ u ∷ z) (l
 index_behind [] u z = refl
 index_behind (v ∷ w) u z = index_behind w u z
 
-point_code : (ds z : Text) → Digits is_hex ds → value 16 0 ds ≤ 1114111 → code_point (ds ++ 125 ∷ z) ≡ Some (letter (length ds + 3) (encoded (value 16 0 ds)))
+point_code : (ds z : Text) → HexDigits ds → value 16 0 ds ≤ 1114111 → code_point (ds ++ 125 ∷ z) ≡ Some (letter (length ds + 3) (encoded (value 16 0 ds)))
 point_code ds z d v =
     let n : past class.Hex (ds ++ 125 ∷ z) 0 ≡ length ds = omega (arith, run_exact is_hex ds (125 ∷ z) d.0 refl) in
     let f : (k : ℕ) → Option Letter = λ k. cond (k == 0 || not (slice_index (ds ++ 125 ∷ z) k == 125)) None (of_code (k + 3) (numeral 1114111 16 0 (take k (ds ++ 125 ∷ z)))) in
@@ -142,7 +144,7 @@ point_code ds z d v =
     ∙ ap (λ (x : Text). of_code (length ds + 3) (numeral 1114111 16 0 x)) (take_here ds (125 ∷ z))
     ∙ ap (of_code (length ds + 3)) (cond_yes _ _ _ (le-leb (value 16 0 ds) 1114111 v))
 
-point_letter : (q : Quote) (ds z : Text) → Digits is_hex ds → value 16 0 ds ≤ 1114111 → Letters q (CodePoint ds) z
+point_letter : (q : Quote) (ds z : Text) → HexDigits ds → value 16 0 ds ≤ 1114111 → Letters q (CodePoint ds) z
 point_letter q ds z d v =
     record {
       l = letter (length ds + 3) (encoded (value 16 0 ds));

@@ -7,7 +7,8 @@ use Rattle.js_lex.specs.declared.token.Punctuator.{Punctuator}
 use Rattle.js_lex.specs.declared.units.Class.TheVariants as class
 use Rattle.js_lex.specs.declared.front.Front.TheVariants as front
 use Rattle.js_lex.specs.Tables.{punctuators}
-use Rattle.js_lex.specs.Units.{Text, is_line_end, past}
+use Rattle.js_lex.specs.Units.{Text, is_line_end}
+use Rattle.js_lex.specs.Runs.{past}
 use Rattle.js_lex.specs.Front as code
 use Rattle.js_lex.specs.Grammar.{In, NotNext, is, is_inner, NoEnd, some, Element, White, LineEnd, LineComment, BlockComment, Word, Numeric, String, Part, Sign, units, Stands, IsLongest, Gap}
 use Rattle.js_lex.proofs.Truths.{cond_no, either, and_first, and_second, and_both, and_no_first, and_no_second, not_yes, all_of, in_all}

@@ -4,11 +4,13 @@ use Rattle.std.specs.Prelude.{◌==◌, ◌&&◌, ◌||◌, nat_le, slice_index}
 use Rattle.std.proofs.lemmas.Bool.{eqb-true, le-leb}
 use Rattle.std.proofs.Math.Dec.{leb-suc-suc}
 use Rattle.js_lex.specs.declared.units.Class.TheVariants as class
-use Rattle.js_lex.specs.Units.{Text, is_digit, past}
+use Rattle.js_lex.specs.Units.{Text, is_digit}
+use Rattle.js_lex.specs.Runs.{past_digits, digits_len}
 use Rattle.js_lex.specs.Front.{begins_exponent, past_exponent}
 use Rattle.js_lex.specs.Grammar.{In, Digits, Exponent, NoExponent, Exponential, exponent_units, IsExponent}
 use Rattle.js_lex.proofs.Truths.{cond_yes, cond_no, cond_ap, either, and_first, and_second, and_both, or_split, or_yes_first, or_yes_second}
-use Rattle.js_lex.proofs.Runs.{run, run_passes, run_least, run_length, both_parts}
+use Rattle.js_lex.proofs.Runs.{both_parts}
+use Rattle.js_lex.proofs.Separated.{clear_digit, must_of, digits_pass, digits_least, digits_length, first_digit}
 use Rattle.js_lex.proofs.Signs.{no_truth}
 
 -- ---- behind a first unit
@@ -26,14 +28,14 @@ begins_suc x z n =
     ∙ ap (λ (k : ℕ). tests (x ∷ z) (slice_index z n) (suc (n + 2)) (suc (n + 1)) k) (plus_suc n 2)
     ∙ ap (λ (r : Bool). r && ((slice_index z n == 101 || slice_index z n == 69) && (is_digit (slice_index z (n + 1)) || ((slice_index z (n + 1) == 43 || slice_index z (n + 1) == 45) && is_digit (slice_index z (n + 2)))))) (leb-suc-suc (n + 2) (length z))
 
-pub past_suc : (x : ℕ) (z : Text) (n : ℕ) → past class.Digit (x ∷ z) (suc n) ≡ suc (past class.Digit z n)
+pub past_suc : (x : ℕ) (z : Text) (n : ℕ) → past_digits class.Digit (x ∷ z) (suc n) ≡ suc (past_digits class.Digit z n)
 past_suc x z n = omega arith
 
 pub exponent_suc : (x : ℕ) (z : Text) (n : ℕ) → past_exponent (x ∷ z) (suc n) ≡ suc (past_exponent z n)
 exponent_suc x z n =
-    ap (λ (r : Bool). cond r (past class.Digit (x ∷ z) (suc n + 2)) (suc n)) (begins_suc x z n)
-    ∙ ap (λ (m : ℕ). cond (begins_exponent z n) m (suc n)) (ap (past class.Digit (x ∷ z)) (plus_suc n 2) ∙ past_suc x z (n + 2))
-    ∙ sym (cond_ap suc (begins_exponent z n) (past class.Digit z (n + 2)) n)
+    ap (λ (r : Bool). cond r (past_digits class.Digit (x ∷ z) (suc n + 2)) (suc n)) (begins_suc x z n)
+    ∙ ap (λ (m : ℕ). cond (begins_exponent z n) m (suc n)) (ap (past_digits class.Digit (x ∷ z)) (plus_suc n 2) ∙ past_suc x z (n + 2))
+    ∙ sym (cond_ap suc (begins_exponent z n) (past_digits class.Digit z (n + 2)) n)
 
 -- the exponent that stands behind a text
 pub exponent_behind : (a y : Text) → past_exponent (a ++ y) (length a) ≡ length a + past_exponent y 0
@@ -52,21 +54,22 @@ begins_signed e s d z h i k =
     let long : nat_le 2 (length (e ∷ s ∷ d ∷ z)) ≡ true = le-leb 2 (length (e ∷ s ∷ d ∷ z)) (omega arith) in
     and_both (nat_le 2 (length (e ∷ s ∷ d ∷ z))) _ long (and_both (e == 101 || e == 69) _ h (or_yes_second (is_digit s) _ (and_both (s == 43 || s == 45) (is_digit d) i k)))
 
-past_two : (e d : ℕ) (z : Text) → past class.Digit (e ∷ d ∷ z) 2 ≡ 2 + run is_digit z
+past_two : (e d : ℕ) (z : Text) → past_digits class.Digit (e ∷ d ∷ z) 2 ≡ 2 + digits_len is_digit z
 past_two e d z = omega arith
 
-plain_bound : (e : ℕ) (ds more : Text) → (e == 101 || e == 69) ≡ true → Digits is_digit ds → 1 + length ds ≤ past_exponent (e ∷ (ds ++ more)) 0
-plain_bound e [] more h k = absurd (omega (arith, k.1))
+plain_bound : (e : ℕ) (ds more : Text) → (e == 101 || e == 69) ≡ true → Digits is_digit true ds → 1 + length ds ≤ past_exponent (e ∷ (ds ++ more)) 0
+plain_bound e [] more h k = absurd (no_truth k)
 plain_bound e (d ∷ ds) more h k =
-    let same : past_exponent (e ∷ d ∷ (ds ++ more)) 0 ≡ 2 + run is_digit (ds ++ more) = cond_yes _ _ _ (begins_digit e d (ds ++ more) h k.0.0) ∙ past_two e d (ds ++ more) in
-    let most = run_least is_digit ds more k.0.1 in
+    let f = first_digit is_digit d ds k in
+    let same : past_exponent (e ∷ d ∷ (ds ++ more)) 0 ≡ 2 + digits_len is_digit (ds ++ more) = cond_yes _ _ _ (begins_digit e d (ds ++ more) h f.0) ∙ past_two e d (ds ++ more) in
+    let most = digits_least is_digit false ds more f.1 in
     omega (arith, same, most)
 
-signed_bound : (e s : ℕ) (ds more : Text) → (e == 101 || e == 69) ≡ true → (s == 43 || s == 45) ≡ true → Digits is_digit ds → 2 + length ds ≤ past_exponent (e ∷ s ∷ (ds ++ more)) 0
-signed_bound e s [] more h i k = absurd (omega (arith, k.1))
+signed_bound : (e s : ℕ) (ds more : Text) → (e == 101 || e == 69) ≡ true → (s == 43 || s == 45) ≡ true → Digits is_digit true ds → 2 + length ds ≤ past_exponent (e ∷ s ∷ (ds ++ more)) 0
+signed_bound e s [] more h i k = absurd (no_truth k)
 signed_bound e s (d ∷ ds) more h i k =
-    let same : past_exponent (e ∷ s ∷ d ∷ (ds ++ more)) 0 ≡ 2 + run is_digit (d ∷ (ds ++ more)) = cond_yes _ _ _ (begins_signed e s d (ds ++ more) h i k.0.0) ∙ past_two e s (d ∷ (ds ++ more)) in
-    let most = run_least is_digit (d ∷ ds) more k.0 in
+    let same : past_exponent (e ∷ s ∷ d ∷ (ds ++ more)) 0 ≡ 2 + digits_len is_digit (d ∷ (ds ++ more)) = cond_yes _ _ _ (begins_signed e s d (ds ++ more) h i (first_digit is_digit d ds k).0) ∙ past_two e s (d ∷ (ds ++ more)) in
+    let most = digits_least is_digit true (d ∷ ds) more k in
     omega (arith, same, most)
 
 pub exponent_bound : (x : Exponent) (more : Text) → IsExponent x → length (exponent_units x) ≤ past_exponent (exponent_units x ++ more) 0
@@ -88,17 +91,14 @@ pub record Exponents (y : Text) : Type 0 where
   pub is : IsExponent exponent
   pub size : past_exponent y 0 ≡ length (exponent_units exponent)
 
-some_run : (d : ℕ) (z : Text) → is_digit d ≡ true → 1 ≤ run is_digit (d ∷ z)
-some_run d z h = run_least is_digit (d ∷ []) z (h, tt)
-
 plain_found : (e d : ℕ) (z : Text) → (e == 101 || e == 69) ≡ true → is_digit d ≡ true → Exponents (e ∷ d ∷ z)
 plain_found e d z h k =
     record {
-      exponent = Exponential e [] (d ∷ take (run is_digit z) z);
-      rest = drop (run is_digit z) z;
-      text = ap (λ (x : Text). e ∷ d ∷ x) (sym (both_parts (run is_digit z) z));
-      is = (h, inl refl, ((k, run_passes is_digit z), omega arith));
-      size = cond_yes _ _ _ (begins_digit e d z h k) ∙ past_two e d z ∙ omega (arith, run_length is_digit z);
+      exponent = Exponential e [] (d ∷ take (digits_len is_digit z) z);
+      rest = drop (digits_len is_digit z) z;
+      text = ap (λ (x : Text). e ∷ d ∷ x) (sym (both_parts (digits_len is_digit z) z));
+      is = (h, inl refl, inl (k, digits_pass is_digit z clear_digit));
+      size = cond_yes _ _ _ (begins_digit e d z h k) ∙ past_two e d z ∙ omega (arith, digits_length is_digit z);
     }
 
 sign_text : (s : ℕ) → (s == 43 || s == 45) ≡ true → In (s ∷ []) ([] ∷ (43 ∷ []) ∷ (45 ∷ []) ∷ [])
@@ -109,13 +109,12 @@ sign_text s h = elim (or_split (s == 43) (s == 45) h) [
 
 signed_found : (e s d : ℕ) (z : Text) → (e == 101 || e == 69) ≡ true → (s == 43 || s == 45) ≡ true → is_digit d ≡ true → Exponents (e ∷ s ∷ d ∷ z)
 signed_found e s d z h i k =
-    let some = some_run d z k in
     record {
-      exponent = Exponential e (s ∷ []) (take (run is_digit (d ∷ z)) (d ∷ z));
-      rest = drop (run is_digit (d ∷ z)) (d ∷ z);
-      text = ap (λ (x : Text). e ∷ s ∷ x) (sym (both_parts (run is_digit (d ∷ z)) (d ∷ z)));
-      is = (h, sign_text s i, (run_passes is_digit (d ∷ z), omega (arith, some, run_length is_digit (d ∷ z))));
-      size = cond_yes _ _ _ (begins_signed e s d z h i k) ∙ past_two e s (d ∷ z) ∙ omega (arith, run_length is_digit (d ∷ z));
+      exponent = Exponential e (s ∷ []) (take (digits_len is_digit (d ∷ z)) (d ∷ z));
+      rest = drop (digits_len is_digit (d ∷ z)) (d ∷ z);
+      text = ap (λ (x : Text). e ∷ s ∷ x) (sym (both_parts (digits_len is_digit (d ∷ z)) (d ∷ z)));
+      is = (h, sign_text s i, must_of is_digit (d ∷ z) clear_digit k (digits_pass is_digit (d ∷ z) clear_digit));
+      size = cond_yes _ _ _ (begins_signed e s d z h i k) ∙ past_two e s (d ∷ z) ∙ omega (arith, digits_length is_digit (d ∷ z));
     }
 
 none_found : (y : Text) → begins_exponent y 0 ≡ false → Exponents y

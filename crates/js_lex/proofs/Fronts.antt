@@ -12,14 +12,16 @@ use Rattle.js_lex.specs.declared.front.Unread.TheVariants as bad
 use Rattle.js_lex.specs.Tables.{punctuators}
 use Rattle.js_lex.specs.Units.{Text, is_line_end, is_white, is_digit, is_name}
 use Rattle.js_lex.specs.Letters.{ending_units}
+use Rattle.js_lex.specs.Values.{part_of}
 use Rattle.js_lex.specs.Front as code
-use Rattle.js_lex.specs.Grammar.{In, Every, Passes, some, Number, Decimal, Point, Big, Based, number_units, IsNumber, characters_units, characters_value, mark, string_quote, part_begin, ending_text, Element, White, LineEnd, LineComment, BlockComment, Word, Numeric, String, Part, Sign, units, Stands, IsLongest, Begins, Reading, Token, ReadsNumber, Reads, IsPiece}
+use Rattle.js_lex.specs.Grammar.{In, Digits, some, Number, Decimal, Point, Big, Based, number_units, IsNumber, characters_units, characters_value, mark, string_quote, part_begin, ending_text, Element, White, LineEnd, LineComment, BlockComment, Word, Numeric, String, Part, Sign, units, Stands, IsLongest, Begins, Reading, Token, ReadsNumber, Reads, IsPiece}
 use Rattle.js_lex.proofs.Truths.{cond_yes, cond_no, and_first, and_second, not_yes, all_of, in_all}
 use Rattle.js_lex.proofs.Which.{Which, AtLineEnd, AtWhite, AtString, AtPart, AtNumber, AtName, AtPoint, AtSlash, AtSign, which, which_of, which_word, which_number, front_by, front_which, sort, sorted}
 use Rattle.js_lex.proofs.Runs.{take_here}
 use Rattle.js_lex.proofs.Longest.{FrontIs, front_for, sort_of, word_sort, number_sort, found_white, found_line_end}
 use Rattle.js_lex.proofs.Words.{found_word, word_only}
 use Rattle.js_lex.proofs.Signs.{no_truth, Row, IsSign, Fine, found_sign, same_sign}
+use Rattle.js_lex.proofs.Separated.{first_digit}
 use Rattle.js_lex.proofs.Literals.{found_string, string_only, found_part, part_only, end_size}
 use Rattle.js_lex.proofs.Comments.{slash_one, found_slash, line_only, block_only}
 
@@ -91,14 +93,14 @@ no_point _ = true
 pub no_points : all_of (λ (r : Row). no_point r.0) punctuators ≡ true
 no_points = refl
 
-point_no_row : (w : Text) (p : Punctuator) (ds x : Text) → In (w, p) punctuators → Every (Passes is_digit) ds → 1 ≤ length ds → 46 ∷ (ds ++ x) ≡ w → ⊥
-point_no_row w p [] x i d k e = omega (arith, k)
-point_no_row w p (d ∷ ds) x i j k e =
+point_no_row : (w : Text) (p : Punctuator) (ds x : Text) → In (w, p) punctuators → Digits is_digit true ds → 46 ∷ (ds ++ x) ≡ w → ⊥
+point_no_row w p [] x i j e = no_truth j
+point_no_row w p (d ∷ ds) x i j e =
     let t : no_point (46 ∷ d ∷ (ds ++ x)) ≡ true = ap no_point e ∙ in_all (λ (r : Row). no_point r.0) (w, p) punctuators i no_points in
-    no_truth (sym j.0 ∙ not_yes (is_digit d) t)
+    no_truth (sym (first_digit is_digit d ds j).0 ∙ not_yes (is_digit d) t)
 
 number_no_row : (w : Text) (p : Punctuator) (n : Number) → In (w, p) punctuators → IsNumber n → which_number n ≡ AtPoint → number_units n ≡ w → ⊥
-number_no_row w p (Point fs x) i s k e = point_no_row w p fs _ i s.0.0 s.0.1 e
+number_no_row w p (Point fs x) i s k e = point_no_row w p fs _ i s.0 e
 number_no_row w p (Decimal ds f x) i s k e = cc
 number_no_row w p (Big ds) i s k e = cc
 number_no_row w p (Based r m ds b) i s k e = cc
@@ -205,5 +207,5 @@ front_only laws h (String d cs) z r p =
 front_only laws h (Part b cs e) z r p =
     let size : suc (length (characters_units cs) + ending_units e) ≡ length (units (Part b cs e)) = omega (arith, length-append (characters_units cs) (ending_text quote.Template e), end_size quote.Template e (inr refl)) in
     front_sort h (part_begin b) ((characters_units cs ++ ending_text quote.Template e) ++ z) (AtPart b) (sorted h (Part b cs e) z p.0) ∙ part_only b cs e z p.0.1
-    ∙ ap (front.Token (tok.Template (code.part_of b e) (characters_value cs))) (less_one (length (characters_units cs) + ending_units e)) ∙ ap (λ (x : Reading). front_for x (suc (length (characters_units cs) + ending_units e))) (sym p.2) ∙ ap (front_for r) size
+    ∙ ap (front.Token (tok.Template (part_of b e) (characters_value cs))) (less_one (length (characters_units cs) + ending_units e)) ∙ ap (λ (x : Reading). front_for x (suc (length (characters_units cs) + ending_units e))) (sym p.2) ∙ ap (front_for r) size
 front_only laws h (Sign w x) z r p = sign_only laws h w x z p.0 p.1 ∙ ap (λ (y : Reading). front_for y (length w)) (sym p.2)

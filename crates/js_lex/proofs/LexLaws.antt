@@ -11,8 +11,9 @@ use Rattle.js_lex.specs.declared.front.Unread.{Unread}
 use Rattle.js_lex.specs.declared.front.Unread.TheVariants as bad
 use Rattle.js_lex.specs.Tables.{punctuators}
 use Rattle.js_lex.specs.Units.{Text}
+use Rattle.js_lex.specs.Places.{in_hole, token}
+use Rattle.js_lex.specs.Scan.{put, tokens_from, tokens_of}
 use Rattle.js_lex.specs.Front as code
-use Rattle.js_lex.specs.Lexed.{in_hole, token, put, tokens_from, tokens_of}
 use Rattle.js_lex.specs.Grammar.{IsInteger, IsNumber, Number, Decimal, Point, Big, Based, number_units, Element, White, LineEnd, LineComment, BlockComment, Word, Numeric, String, Part, Sign, units, Stands, Begins, BeginsNone, Reading, Gap, Token, Refused, Reads, Piece, text_of, IsRead, braces_behind, open_braces, IsPiece, ArePieces, Stops, piece_tokens, line_ends, tokens, AreTokens}
 use Rattle.js_lex.proofs.Truths.{in_all}
 use Rattle.js_lex.proofs.ScanLemmas.{from_drop}

@@ -13,6 +13,7 @@ pub mod Literals
 pub mod Comments
 pub mod Fronts
 pub mod LexLaws
+pub mod Separated
 pub mod Exponents
 pub mod Points
 pub mod Tails

@@ -10,6 +10,7 @@ use Rattle.js_lex.specs.declared.letters.Body.{Body}
 use Rattle.js_lex.specs.declared.front.Front.TheVariants as front
 use Rattle.js_lex.specs.Units.{Text}
 use Rattle.js_lex.specs.Letters.{ending_units, body_of}
+use Rattle.js_lex.specs.Values.{part_of}
 use Rattle.js_lex.specs.Front as code
 use Rattle.js_lex.specs.Grammar.{Character, characters_units, characters_value, AreCharacters, mark, ending_text, string_quote, part_begin, Element, White, LineEnd, LineComment, BlockComment, Word, Numeric, String, Part, Sign, units, Stands, Token}
 use Rattle.js_lex.proofs.Which.{Which, AtString, AtPart, which, sort}
@@ -121,7 +122,7 @@ part_is h b (Numeric n) more u z e s k = absurd (number_sort (λ (k : Which). k 
 part_is h b (String d_ cs) more u z e s k = cc
 part_is h b (Sign w y) more u z e s k = absurd (word_sort (λ (k : Which). k ≡ AtPart b → ⊥) (λ e. cc) (λ e. cc) (λ e. cc) w more e)
 
-found_part_body : (h b : Bool) (u : ℕ) (z : Text) (y : Body) → which h u z ≡ AtPart b → u ≡ part_begin b → (b ≡ true) ⊎ (h ≡ true) → body_of quote.Template 0 z ≡ Some y → BodyIs quote.Template z y → Found h (u ∷ z) (front.Token (tok.Template (code.part_of b y.ending) y.value) y.units)
+found_part_body : (h b : Bool) (u : ℕ) (z : Text) (y : Body) → which h u z ≡ AtPart b → u ≡ part_begin b → (b ≡ true) ⊎ (h ≡ true) → body_of quote.Template 0 z ≡ Some y → BodyIs quote.Template z y → Found h (u ∷ z) (front.Token (tok.Template (part_of b y.ending) y.value) y.units)
 found_part_body h b u z y w m g e i =
     let text : z ≡ (characters_units i.chars ++ ending_text quote.Template y.ending) ++ i.rest = i.text ∙ sym (append_assoc (characters_units i.chars) (ending_text quote.Template y.ending) i.rest) in
     let whole : u ∷ z ≡ part_begin b ∷ ((characters_units i.chars ++ ending_text quote.Template y.ending) ++ i.rest) = ap (λ (v : ℕ). v ∷ z) m ∙ ap (λ (x : Text). part_begin b ∷ x) text in
@@ -129,7 +130,7 @@ found_part_body h b u z y w m g e i =
     record {
       element = Part b i.chars y.ending;
       rest = i.rest;
-      reading = Token (tok.Template (code.part_of b y.ending) (characters_value i.chars));
+      reading = Token (tok.Template (part_of b y.ending) (characters_value i.chars));
       begins = record {
         is_text = whole;
         stands = (g, i.are);
@@ -138,7 +139,7 @@ found_part_body h b u z y w m g e i =
             omega (arith, n, size);
       };
       reads = refl;
-      is = ap (λ (x : List ℕ). front.Token (tok.Template (code.part_of b y.ending) x) y.units) i.value_ ∙ ap (front.Token (tok.Template (code.part_of b y.ending) (characters_value i.chars))) (omega (arith, size));
+      is = ap (λ (x : List ℕ). front.Token (tok.Template (part_of b y.ending) x) y.units) i.value_ ∙ ap (front.Token (tok.Template (part_of b y.ending) (characters_value i.chars))) (omega (arith, size));
     }
 
 part_at : (h b : Bool) (u : ℕ) (z : Text) (o : Option Body) → which h u z ≡ AtPart b → u ≡ part_begin b → (b ≡ true) ⊎ (h ≡ true) → body_of quote.Template 0 z ≡ o → FrontIs h (u ∷ z) (code.template_of b o)
@@ -149,6 +150,6 @@ part_at h b u z (Some y) w m g e = inl (found_part_body h b u z y w m g e (body_
 pub found_part : (h b : Bool) (u : ℕ) (z : Text) → which h u z ≡ AtPart b → u ≡ part_begin b → (b ≡ true) ⊎ (h ≡ true) → FrontIs h (u ∷ z) (code.template b z)
 found_part h b u z w m g = part_at h b u z (body_of quote.Template 0 z) w m g refl
 
-pub part_only : (b : Bool) (cs : List Character) (e : Ending) (z : Text) → AreCharacters quote.Template cs (ending_text quote.Template e ++ z) → code.template b ((characters_units cs ++ ending_text quote.Template e) ++ z) ≡ front.Token (tok.Template (code.part_of b e) (characters_value cs)) (length (characters_units cs) + ending_units e)
+pub part_only : (b : Bool) (cs : List Character) (e : Ending) (z : Text) → AreCharacters quote.Template cs (ending_text quote.Template e ++ z) → code.template b ((characters_units cs ++ ending_text quote.Template e) ++ z) ≡ front.Token (tok.Template (part_of b e) (characters_value cs)) (length (characters_units cs) + ending_units e)
 part_only b cs e z a =
     ap (code.template_of b) (ap (body_of quote.Template 0) (append_assoc (characters_units cs) (ending_text quote.Template e) z) ∙ body_whole quote.Template cs e z a (inr refl))

@@ -1,5 +1,5 @@
 -- Fractions that begin with their point.
-use Rattle.std.proofs.Common.{◌≡◌, ℕ, ◌+◌, ◌≤◌, Bool, true, false, [], ◌∷◌, ◌++◌, take, drop, length, Option, None, refl, sym, ◌∙◌, ap, subst, arith, append_assoc, inl, inr}
+use Rattle.std.proofs.Common.{◌≡◌, ℕ, ◌+◌, ◌≤◌, Bool, true, false, cond, [], ◌∷◌, ◌++◌, take, drop, length, Option, None, refl, sym, ◌∙◌, ap, subst, arith, append_assoc, inl, inr}
 use Rattle.std.specs.Prelude.{◌==◌, ◌&&◌, ◌||◌, slice_index}
 use Rattle.std.proofs.lemmas.Bool.{eq-eqb, eqb-true}
 use Rattle.std.proofs.lemmas.List.{length-append}
@@ -8,12 +8,14 @@ use Rattle.js_lex.specs.declared.units.Class.TheVariants as class
 use Rattle.js_lex.specs.declared.front.Front.TheVariants as front
 use Rattle.js_lex.specs.declared.front.Unread.TheVariants as bad
 use Rattle.js_lex.specs.Tables.{punctuators}
-use Rattle.js_lex.specs.Units.{Text, is_digit, is_name, past}
+use Rattle.js_lex.specs.Units.{Text, is_digit, is_name}
+use Rattle.js_lex.specs.Runs.{past_some}
 use Rattle.js_lex.specs.Front as code
-use Rattle.js_lex.specs.Grammar.{In, Every, Passes, NotNext, Number, Decimal, Point, Big, Based, number_units, Exponent, NoExponent, Exponential, exponent_units, IsExponent, Element, White, LineEnd, LineComment, BlockComment, Word, Numeric, String, Part, Sign, units, Stands, Reading, Refused, number_value, ReadsValue, ReadsNumber}
+use Rattle.js_lex.specs.Grammar.{In, NotNext, Digits, OrNone, Number, Decimal, Point, Big, Based, number_units, Exponent, NoExponent, Exponential, exponent_units, IsExponent, Element, White, LineEnd, LineComment, BlockComment, Word, Numeric, String, Part, Sign, units, Stands, Reading, Refused, number_value, ReadsValue, ReadsNumber}
 use Rattle.js_lex.proofs.Truths.{cond_yes, cond_no, either, and_both, not_yes, or_split, in_all}
 use Rattle.js_lex.proofs.Which.{AtPoint, which, sort}
-use Rattle.js_lex.proofs.Runs.{run, run_passes, run_least, run_exact, run_length, both_parts, drop_here}
+use Rattle.js_lex.proofs.Runs.{both_parts, drop_here}
+use Rattle.js_lex.proofs.Separated.{Ends, clear_digit, must_of, digits_pass, some_len, some_least, some_exact, some_length, other_ends}
 use Rattle.js_lex.proofs.Longest.{FrontIs, sort_of, front_for}
 use Rattle.js_lex.proofs.Signs.{no_truth, Row}
 use Rattle.js_lex.proofs.Fronts.{no_point, no_points}
@@ -31,23 +33,29 @@ pub index_at : (a y : Text) → slice_index (a ++ y) (length a) ≡ slice_index 
 index_at [] y = refl
 index_at (u ∷ a) y = index_at a y
 
-pub letter_no_digit : (e : ℕ) → (e == 101 || e == 69) ≡ true → is_digit e ≡ false
+letter_no_digit : (e : ℕ) → (e == 101 || e == 69) ≡ true → is_digit e ≡ false
 letter_no_digit e h = elim (or_split (e == 101) (e == 69) h) [
   | inl y ↦ ap is_digit (eqb-true e 101 y)
   | inr y ↦ ap is_digit (eqb-true e 69 y)
 ]
 
+pub letter_ends : (e : ℕ) (z : Text) → (e == 101 || e == 69) ≡ true → Ends is_digit (e ∷ z)
+letter_ends e z h = other_ends is_digit e z (letter_no_digit e h) (elim (or_split (e == 101) (e == 69) h) [
+  | inl y ↦ ap (λ (n : ℕ). n == 95) (eqb-true e 101 y)
+  | inr y ↦ ap (λ (n : ℕ). n == 95) (eqb-true e 69 y)
+])
+
 -- the digits and the exponent of another one are no longer
-pub digits_bound : (gs : Text) (x : Exponent) (more z : Text) → Every (Passes is_digit) gs → IsExponent x → (gs ++ exponent_units x) ++ more ≡ z → length (gs ++ exponent_units x) ≤ run is_digit z + code.past_exponent (drop (run is_digit z) z) 0
+pub digits_bound : (gs : Text) (x : Exponent) (more z : Text) → OrNone is_digit gs → IsExponent x → (gs ++ exponent_units x) ++ more ≡ z → length (gs ++ exponent_units x) ≤ some_len is_digit z + code.past_exponent (drop (some_len is_digit z) z) 0
 digits_bound gs NoExponent more z g i k =
-    let a = run_least is_digit gs more g in
-    let b : length gs ≤ run is_digit z = subst (λ (y : Text). length gs ≤ run is_digit y) (sym (append_assoc gs [] more) ∙ k) a in
+    let a = some_least is_digit gs more g in
+    let b : length gs ≤ some_len is_digit z = subst (λ (y : Text). length gs ≤ some_len is_digit y) (sym (append_assoc gs [] more) ∙ k) a in
     omega (arith, b, length-append gs [])
 digits_bound gs (Exponential e s ds) more z g i k =
     let w = exponent_units (Exponential e s ds) ++ more in
     let t : gs ++ (exponent_units (Exponential e s ds) ++ more) ≡ z = sym (append_assoc gs (exponent_units (Exponential e s ds)) more) ∙ k in
-    let n : run is_digit z ≡ length gs = ap (run is_digit) (sym t) ∙ run_exact is_digit gs (exponent_units (Exponential e s ds) ++ more) g (letter_no_digit e i.0) in
-    let r : drop (run is_digit z) z ≡ exponent_units (Exponential e s ds) ++ more = ap (λ (m : ℕ). drop m z) n ∙ ap (drop (length gs)) (sym t) ∙ drop_here gs (exponent_units (Exponential e s ds) ++ more) in
+    let n : some_len is_digit z ≡ length gs = ap (some_len is_digit) (sym t) ∙ some_exact is_digit gs (exponent_units (Exponential e s ds) ++ more) clear_digit g (letter_ends e ((s ++ ds) ++ more) i.0) in
+    let r : drop (some_len is_digit z) z ≡ exponent_units (Exponential e s ds) ++ more = ap (λ (m : ℕ). drop m z) n ∙ ap (drop (length gs)) (sym t) ∙ drop_here gs (exponent_units (Exponential e s ds) ++ more) in
     let b = exponent_bound (Exponential e s ds) more i in
     let c = ap (λ (y : Text). code.past_exponent y 0) r in
     omega (arith, n, b, c, length-append gs (exponent_units (Exponential e s ds)))
@@ -62,10 +70,10 @@ sign_short (a ∷ b ∷ v) p more z i k d =
     let c : is_digit b ≡ true = ap (λ (x : Text). is_digit (slice_index x 0)) y ∙ d in
     absurd (no_truth (sym (and_both (a == 46) (is_digit b) (eq-eqb a 46 q) c) ∙ not_yes (a == 46 && is_digit b) t))
 
-point_bound : (h : Bool) (f : Element) (more z : Text) → sort f more ≡ AtPoint → Stands h f more → units f ++ more ≡ 46 ∷ z → is_digit (slice_index z 0) ≡ true → length (units f) ≤ 1 + (run is_digit z + code.past_exponent (drop (run is_digit z) z) 0)
+point_bound : (h : Bool) (f : Element) (more z : Text) → sort f more ≡ AtPoint → Stands h f more → units f ++ more ≡ 46 ∷ z → is_digit (slice_index z 0) ≡ true → length (units f) ≤ 1 + (some_len is_digit z + code.past_exponent (drop (some_len is_digit z) z) 0)
 point_bound h (Numeric (Point gs x)) more z e s k d =
     let t : (gs ++ exponent_units x) ++ more ≡ z = cc in
-    let b = digits_bound gs x more z s.0.0 s.1 t in
+    let b = digits_bound gs x more z (inr s.0) s.1 t in
     omega (arith, b)
 point_bound h (Numeric (Decimal ds f x)) more z e s k d = cc
 point_bound h (Numeric (Big ds)) more z e s k d = cc
@@ -79,9 +87,11 @@ point_bound h (Word v w) more z e s k d = cc
 point_bound h (String d_ cs) more z e s k d = cc
 point_bound h (Part b_ cs x) more z e s k d = cc
 
-first_run : (z : Text) → is_digit (slice_index z 0) ≡ true → 1 ≤ run is_digit z
-first_run [] d = absurd (no_truth (sym d))
-first_run (u ∷ z) d = run_least is_digit (u ∷ []) z (d, tt)
+pub digits_at : (z : Text) → is_digit (slice_index z 0) ≡ true → Digits is_digit true (take (some_len is_digit z) z)
+digits_at z d = subst (λ (m : ℕ). Digits is_digit true (take m z)) (sym (cond_yes _ _ _ d)) (must_of is_digit z clear_digit d (digits_pass is_digit z clear_digit))
+
+pub some_at : (z : Text) → past_some class.Digit z 0 ≡ some_len is_digit z
+some_at z = ap (λ (m : ℕ). cond (is_digit (slice_index z 0)) m 0) (omega arith)
 
 ended_reading : (n : Number) (z : Text) (at : ℕ) (rest : Text) → slice_index z at ≡ slice_index rest 0 → number_value n ≡ None → (r : Reading) × ReadsNumber n rest r × (code.ended z at (front.Bad bad.Number) ≡ front_for r (length (number_units n)))
 ended_reading n z at rest k v = elim (either (is_name (slice_index rest 0))) [
@@ -91,26 +101,26 @@ ended_reading n z at rest k v = elim (either (is_name (slice_index rest 0))) [
 
 pub found_point : (h : Bool) (z : Text) → which h 46 z ≡ AtPoint → is_digit (slice_index z 0) ≡ true → FrontIs h (46 ∷ z) (code.point z)
 found_point h z w d =
-    let n = run is_digit z in
-    let fs = take (run is_digit z) z in
-    let x = exponents (drop (run is_digit z) z) in
-    let v = take (run is_digit z) z ++ exponent_units x.exponent in
-    let text : z ≡ (take (run is_digit z) z ++ exponent_units x.exponent) ++ x.rest = sym (both_parts (run is_digit z) z) ∙ ap (λ (y : Text). take (run is_digit z) z ++ y) x.text ∙ sym (append_assoc (take (run is_digit z) z) (exponent_units x.exponent) x.rest) in
-    let size : length (take (run is_digit z) z ++ exponent_units x.exponent) ≡ run is_digit z + code.past_exponent (drop (run is_digit z) z) 0 = omega (arith, length-append (take (run is_digit z) z) (exponent_units x.exponent), run_length is_digit z, x.size) in
-    let start : past class.Digit z 0 ≡ length (take (run is_digit z) z) = omega (arith, run_length is_digit z) in
-    let at : code.past_exponent z (past class.Digit z 0) ≡ length (take (run is_digit z) z ++ exponent_units x.exponent) =
-    ap (code.past_exponent z) start ∙ ap (λ (y : Text). code.past_exponent y (length (take (run is_digit z) z))) (sym (both_parts (run is_digit z) z)) ∙ exponent_behind (take (run is_digit z) z) (drop (run is_digit z) z)
-    ∙ omega (arith, size, run_length is_digit z) in
-    let index : slice_index z (code.past_exponent z (past class.Digit z 0)) ≡ slice_index x.rest 0 = ap (slice_index z) at ∙ ap (λ (y : Text). slice_index y (length (take (run is_digit z) z ++ exponent_units x.exponent))) text ∙ index_at (take (run is_digit z) z ++ exponent_units x.exponent) x.rest in
-    let r = ended_reading (Point (take (run is_digit z) z) x.exponent) z (code.past_exponent z (past class.Digit z 0)) x.rest index refl in
-    let whole : 46 ∷ z ≡ 46 ∷ ((take (run is_digit z) z ++ exponent_units x.exponent) ++ x.rest) = ap (λ (y : Text). 46 ∷ y) text in
+    let n = some_len is_digit z in
+    let fs = take (some_len is_digit z) z in
+    let x = exponents (drop (some_len is_digit z) z) in
+    let v = take (some_len is_digit z) z ++ exponent_units x.exponent in
+    let text : z ≡ (take (some_len is_digit z) z ++ exponent_units x.exponent) ++ x.rest = sym (both_parts (some_len is_digit z) z) ∙ ap (λ (y : Text). take (some_len is_digit z) z ++ y) x.text ∙ sym (append_assoc (take (some_len is_digit z) z) (exponent_units x.exponent) x.rest) in
+    let size : length (take (some_len is_digit z) z ++ exponent_units x.exponent) ≡ some_len is_digit z + code.past_exponent (drop (some_len is_digit z) z) 0 = omega (arith, length-append (take (some_len is_digit z) z) (exponent_units x.exponent), some_length is_digit z, x.size) in
+    let start : past_some class.Digit z 0 ≡ length (take (some_len is_digit z) z) = omega (arith, some_at z, some_length is_digit z) in
+    let at : code.past_exponent z (past_some class.Digit z 0) ≡ length (take (some_len is_digit z) z ++ exponent_units x.exponent) =
+    ap (code.past_exponent z) start ∙ ap (λ (y : Text). code.past_exponent y (length (take (some_len is_digit z) z))) (sym (both_parts (some_len is_digit z) z)) ∙ exponent_behind (take (some_len is_digit z) z) (drop (some_len is_digit z) z)
+    ∙ omega (arith, size, some_length is_digit z) in
+    let index : slice_index z (code.past_exponent z (past_some class.Digit z 0)) ≡ slice_index x.rest 0 = ap (slice_index z) at ∙ ap (λ (y : Text). slice_index y (length (take (some_len is_digit z) z ++ exponent_units x.exponent))) text ∙ index_at (take (some_len is_digit z) z ++ exponent_units x.exponent) x.rest in
+    let r = ended_reading (Point (take (some_len is_digit z) z) x.exponent) z (code.past_exponent z (past_some class.Digit z 0)) x.rest index refl in
+    let whole : 46 ∷ z ≡ 46 ∷ ((take (some_len is_digit z) z ++ exponent_units x.exponent) ++ x.rest) = ap (λ (y : Text). 46 ∷ y) text in
     inl (record {
-      element = Numeric (Point (take (run is_digit z) z) x.exponent);
+      element = Numeric (Point (take (some_len is_digit z) z) x.exponent);
       rest = x.rest;
       reading = r.0;
       begins = record {
         is_text = whole;
-        stands = ((run_passes is_digit z, omega (arith, first_run z d, run_length is_digit z)), x.is);
+        stands = (digits_at z d, x.is);
         longest = λ f more s k.
             let b = point_bound h f more z (sort_of h f more 46 z s (k ∙ sym whole) ∙ w) s (k ∙ sym whole) d in
             omega (arith, b, size);

@@ -26,7 +26,7 @@ pub run_stops : (p : ℕ → Bool) (z : Text) → NotNext p (drop (run p z) z)
 run_stops p [] = tt
 run_stops p (u ∷ z) = stops_at p u z (run p z) (p u) refl (run_stops p z)
 
-least_at : (n m : ℕ) (r : Bool) → r ≡ true → n ≤ m → 1 + n ≤ cond r (1 + m) 0
+pub least_at : (n m : ℕ) (r : Bool) → r ≡ true → n ≤ m → 1 + n ≤ cond r (1 + m) 0
 least_at n m true e h = omega (arith, h)
 least_at n m false e h = cc
 
@@ -34,11 +34,11 @@ pub run_least : (p : ℕ → Bool) (w z : Text) → Every (Passes p) w → lengt
 run_least p [] z h = omega arith
 run_least p (u ∷ w) z h = let x : 1 + length w ≤ run p (u ∷ (w ++ z)) = least_at (length w) (run p (w ++ z)) (p u) h.0 (run_least p w z h.1) in omega (arith, x)
 
-exact_at : (n m : ℕ) (r : Bool) → r ≡ true → n ≡ m → cond r (1 + n) 0 ≡ 1 + m
+pub exact_at : (n m : ℕ) (r : Bool) → r ≡ true → n ≡ m → cond r (1 + n) 0 ≡ 1 + m
 exact_at n m true e h = omega (arith, h)
 exact_at n m false e h = cc
 
-none_at : (n : ℕ) (r : Bool) → r ≡ false → cond r (1 + n) 0 ≡ 0
+pub none_at : (n : ℕ) (r : Bool) → r ≡ false → cond r (1 + n) 0 ≡ 0
 none_at n true e = cc
 none_at n false e = refl
 
@@ -72,7 +72,7 @@ take_length zero z h = refl
 take_length (suc n) [] h = absurd (omega (arith, h))
 take_length (suc n) (u ∷ z) h = ap suc (take_length n z (omega (arith, h)))
 
-run_within_at : (n m : ℕ) (r : Bool) → n ≤ m → cond r (1 + n) 0 ≤ suc m
+pub run_within_at : (n m : ℕ) (r : Bool) → n ≤ m → cond r (1 + n) 0 ≤ suc m
 run_within_at n m true h = omega (arith, h)
 run_within_at n m false h = omega arith
 

@@ -9,9 +9,9 @@ use Rattle.js_lex.specs.declared.scan.Step.TheVariants as step
 use Rattle.js_lex.specs.declared.front.Front.{Front}
 use Rattle.js_lex.specs.declared.front.Front.TheVariants as front
 use Rattle.js_lex.specs.Units.{Text}
+use Rattle.js_lex.specs.Places.{in_hole, braces, token}
 use Rattle.js_lex.specs.Front.{front_of, more_units}
-use Rattle.js_lex.specs.Lexed.{in_hole, braces, token, put, tokens_from}
-use Rattle.js_lex.specs.Scan.{taken}
+use Rattle.js_lex.specs.Scan.{put, tokens_from, taken}
 
 pub from_drop : (k n : ℕ) (l : Bool) (bs : List Brace) (z : Text) → tokens_from k n l bs z ≡ tokens_from 0 n l bs (drop k z)
 from_drop zero n l bs z = refl

@@ -9,7 +9,8 @@ use Rattle.js_lex.specs.declared.front.Front.{Front}
 use Rattle.js_lex.specs.declared.front.Front.TheVariants as front
 use Rattle.js_lex.specs.declared.front.Unread.TheVariants as bad
 use Rattle.js_lex.specs.Tables.{punctuators}
-use Rattle.js_lex.specs.Units.{Text, is_digit, begins}
+use Rattle.js_lex.specs.Units.{Text, is_digit}
+use Rattle.js_lex.specs.Runs.{begins}
 use Rattle.js_lex.specs.Front as code
 use Rattle.js_lex.specs.Grammar.{In, NotNext, is, Element, Sign, units, MayFollow, Stands, Token}
 use Rattle.js_lex.proofs.Truths.{cond_yes, cond_no, either, and_first, and_second, and_both, not_yes, all_of, in_all}

@@ -1,14 +1,16 @@
 -- The fraction and the exponent behind an integer.
-use Rattle.std.proofs.Common.{◌≡◌, ℕ, ◌+◌, ◌≤◌, true, false, [], ◌∷◌, ◌++◌, take, drop, length, refl, sym, ◌∙◌, ap, subst, arith, append_assoc, inl, inr}
+use Rattle.std.proofs.Common.{◌≡◌, ℕ, ◌+◌, ◌≤◌, Bool, true, false, cond, [], ◌∷◌, ◌++◌, take, drop, length, refl, sym, ◌∙◌, ap, subst, arith, append_assoc, inl, inr}
 use Rattle.std.specs.Prelude.{◌==◌, ◌||◌, slice_index}
 use Rattle.std.proofs.lemmas.Bool.{eqb-true}
 use Rattle.std.proofs.lemmas.List.{length-append}
 use Rattle.js_lex.specs.declared.units.Class.TheVariants as class
-use Rattle.js_lex.specs.Units.{Text, is_digit, past}
+use Rattle.js_lex.specs.Units.{Text, is_digit}
+use Rattle.js_lex.specs.Runs.{past_some, digits_len}
 use Rattle.js_lex.specs.Front.{past_fraction, past_exponent}
 use Rattle.js_lex.specs.Grammar.{Exponent, NoExponent, Exponential, exponent_units, IsExponent, Fraction, NoFraction, Fractional, fraction_units, IsFraction}
 use Rattle.js_lex.proofs.Truths.{cond_no, either, or_split}
-use Rattle.js_lex.proofs.Runs.{run, run_passes, run_length, both_parts}
+use Rattle.js_lex.proofs.Runs.{both_parts}
+use Rattle.js_lex.proofs.Separated.{clear_digit, some_len, some_pass, some_length}
 use Rattle.js_lex.proofs.Exponents.{exponent_behind, exponent_bound, exponents}
 use Rattle.js_lex.proofs.Points.{digits_bound}
 
@@ -16,12 +18,19 @@ use Rattle.js_lex.proofs.Points.{digits_bound}
 abbrev pub extent : Text → ℕ
 extent y = past_exponent y (past_fraction y 0)
 
-extent_point : (y : Text) → extent (46 ∷ y) ≡ 1 + (run is_digit y + past_exponent (drop (run is_digit y) y) 0)
+some_behind_at : (n : ℕ) (r : Bool) → cond r (1 + n) 1 ≡ 1 + cond r n 0
+some_behind_at n true = refl
+some_behind_at n false = omega arith
+
+some_behind : (y : Text) → past_some class.Digit (46 ∷ y) 1 ≡ 1 + some_len is_digit y
+some_behind y = some_behind_at (digits_len is_digit y) (is_digit (slice_index y 0))
+
+extent_point : (y : Text) → extent (46 ∷ y) ≡ 1 + (some_len is_digit y + past_exponent (drop (some_len is_digit y) y) 0)
 extent_point y =
-    let start : past class.Digit (46 ∷ y) 1 ≡ length (46 ∷ take (run is_digit y) y) = omega (arith, run_length is_digit y) in
-    let text : 46 ∷ y ≡ (46 ∷ take (run is_digit y) y) ++ drop (run is_digit y) y = ap (λ (x : Text). 46 ∷ x) (sym (both_parts (run is_digit y) y)) in
-    ap (past_exponent (46 ∷ y)) start ∙ ap (λ (x : Text). past_exponent x (length (46 ∷ take (run is_digit y) y))) text
-    ∙ exponent_behind (46 ∷ take (run is_digit y) y) (drop (run is_digit y) y) ∙ omega (arith, run_length is_digit y)
+    let start : past_some class.Digit (46 ∷ y) 1 ≡ length (46 ∷ take (some_len is_digit y) y) = some_behind y ∙ omega (arith, some_length is_digit y) in
+    let text : 46 ∷ y ≡ (46 ∷ take (some_len is_digit y) y) ++ drop (some_len is_digit y) y = ap (λ (x : Text). 46 ∷ x) (sym (both_parts (some_len is_digit y) y)) in
+    ap (past_exponent (46 ∷ y)) start ∙ ap (λ (x : Text). past_exponent x (length (46 ∷ take (some_len is_digit y) y))) text
+    ∙ exponent_behind (46 ∷ take (some_len is_digit y) y) (drop (some_len is_digit y) y) ∙ omega (arith, some_length is_digit y)
 
 extent_none : (y : Text) → (slice_index y 0 == 46) ≡ false → extent y ≡ past_exponent y 0
 extent_none y h = ap (past_exponent y) (cond_no _ _ _ h)
@@ -42,15 +51,15 @@ no_tail y h =
 
 point_tail : (y : Text) → Tails (46 ∷ y)
 point_tail y =
-    let x = exponents (drop (run is_digit y) y) in
+    let x = exponents (drop (some_len is_digit y) y) in
     record {
-      fraction = Fractional (take (run is_digit y) y);
+      fraction = Fractional (take (some_len is_digit y) y);
       exponent = x.exponent;
       rest = x.rest;
-      text = ap (λ (z : Text). 46 ∷ z) (sym (both_parts (run is_digit y) y) ∙ ap (λ (z : Text). take (run is_digit y) y ++ z) x.text ∙ sym (append_assoc (take (run is_digit y) y) (exponent_units x.exponent) x.rest));
-      is_fraction = run_passes is_digit y;
+      text = ap (λ (z : Text). 46 ∷ z) (sym (both_parts (some_len is_digit y) y) ∙ ap (λ (z : Text). take (some_len is_digit y) y ++ z) x.text ∙ sym (append_assoc (take (some_len is_digit y) y) (exponent_units x.exponent) x.rest));
+      is_fraction = some_pass is_digit y clear_digit;
       is_exponent = x.is;
-      size = extent_point y ∙ omega (arith, x.size, run_length is_digit y, length-append (take (run is_digit y) y) (exponent_units x.exponent));
+      size = extent_point y ∙ omega (arith, x.size, some_length is_digit y, length-append (take (some_len is_digit y) y) (exponent_units x.exponent));
     }
 
 pub tails : (y : Text) → Tails y

@@ -3,7 +3,8 @@ use Rattle.std.proofs.Common.{◌≡◌, ℕ, ◌+◌, ◌*◌, ◌≤◌, ◌<�
 use Rattle.std.proofs.Math.Nat.{le-mul_of_pos_right}
 use Rattle.std.proofs.lemmas.Bool.{lt-leb}
 use Rattle.std.specs.Prelude.{length, slice_index}
-use Rattle.js_lex.specs.Units.{Text, digit_of, value, numeral}
+use Rattle.js_lex.specs.Units.{Text, digit_of, value}
+use Rattle.js_lex.specs.Runs.{numeral}
 
 -- more digits make no number smaller
 pub grows : (base : ℕ) (ds : Text) (n : ℕ) → 1 ≤ base → n ≤ value base n ds

@@ -9,7 +9,7 @@ use Rattle.js_lex.specs.Tables.{punctuators}
 use Rattle.js_lex.specs.Units.{Text, is_line_end, is_white, is_digit, is_name}
 use Rattle.js_lex.specs.Front as code
 use Rattle.js_lex.specs.declared.front.Front.TheVariants as front
-use Rattle.js_lex.specs.Grammar.{In, Every, Passes, IsInteger, Number, Decimal, Based, Point, Big, Element, White, LineEnd, LineComment, BlockComment, Word, Numeric, String, Part, Sign, units, number_units, exponent_units, characters_units, ending_text, string_quote, part_begin, mark, IsNumber, Stands, MayFollow}
+use Rattle.js_lex.specs.Grammar.{In, Digits, IsInteger, Number, Decimal, Based, Point, Big, Element, White, LineEnd, LineComment, BlockComment, Word, Numeric, String, Part, Sign, units, number_units, exponent_units, characters_units, ending_text, string_quote, part_begin, mark, IsNumber, Stands, MayFollow}
 use Rattle.js_lex.proofs.Truths.{cond_yes, cond_no, cond_ap, or_first, or_second, and_first, and_second, and_no_first, not_yes, apart, name_no_white, name_no_line_end, white_no_line_end, digit_name, all_of, in_all}
 
 pub data Which : Type 0 where
@@ -102,9 +102,10 @@ at_integer_with : (h : Bool) (ds x z : Text) → IsInteger ds → which_of h ((d
 at_integer_with h [] x z i = absurd i
 at_integer_with h (d ∷ ds) x z i = ap Some (at_digit h d ((ds ++ x) ++ z) i.0)
 
-at_point : (h : Bool) (fs x z : Text) → Every (Passes is_digit) fs → 1 ≤ length fs → which_of h (46 ∷ ((fs ++ x) ++ z)) ≡ Some AtPoint
-at_point h [] x z i k = absurd (omega (arith, k))
-at_point h (d ∷ fs) x z i k = ap Some (cond_yes (is_digit d) _ _ i.0)
+at_point : (h : Bool) (fs x z : Text) → Digits is_digit true fs → which_of h (46 ∷ ((fs ++ x) ++ z)) ≡ Some AtPoint
+at_point h [] x z i = cc
+at_point h (d ∷ fs) x z (inl i) = ap Some (cond_yes (is_digit d) _ _ i.0)
+at_point h (d ∷ fs) x z (inr i) = cc
 
 -- ---- the table of punctuators
 
@@ -156,7 +157,7 @@ at_string h false z = refl
 
 at_numeral : (h : Bool) (n : Number) (z : Text) → IsNumber n → which_of h (number_units n ++ z) ≡ Some (which_number n)
 at_numeral h (Decimal ds f e) z i = at_integer_with h ds _ z i.0
-at_numeral h (Point fs e) z i = at_point h fs (exponent_units e) z i.0.0 i.0.1
+at_numeral h (Point fs e) z i = at_point h fs (exponent_units e) z i.0
 at_numeral h (Big ds) z i = at_integer_with h ds _ z i
 at_numeral h (Based r m ds b) z i = refl
 

@@ -1,6 +1,8 @@
 -- Names and reserved words.
 use Rattle.std.proofs.Common.{◌≡◌, ℕ, ◌+◌, ◌≤◌, Bool, true, false, cond, List, [], ◌∷◌, ◌++◌, take, drop, length, Option, Some, None, refl, sym, ◌∙◌, ap, subst, arith, inl, inr}
 use Rattle.std.specs.Prelude.{◌==◌, ◌&&◌, not}
+use Rattle.std.specs.Str.{bytes_eq}
+use Rattle.std.proofs.lemmas.Slice.Eq.{bytes_eq-Decides}
 use Rattle.std.proofs.lemmas.Bool.{eqb-true, eq-eqb}
 use Rattle.js_lex.specs.declared.token.TokenKind.{TokenKind}
 use Rattle.js_lex.specs.declared.token.Reserved.{Reserved}
@@ -9,7 +11,8 @@ use Rattle.js_lex.specs.declared.front.Front.{Front}
 use Rattle.js_lex.specs.declared.front.Front.TheVariants as front
 use Rattle.js_lex.specs.declared.front.Unread.TheVariants as bad
 use Rattle.js_lex.specs.Tables.{reserved_words}
-use Rattle.js_lex.specs.Units.{Text, is_digit, is_part, is_name, past, begins}
+use Rattle.js_lex.specs.Units.{Text, is_digit, is_part, is_name}
+use Rattle.js_lex.specs.Runs.{past, begins}
 use Rattle.js_lex.specs.Front as code
 use Rattle.js_lex.specs.Grammar.{In, Every, Passes, Element, White, LineEnd, LineComment, BlockComment, Word, Numeric, String, Part, Sign, units, Stands, IsLongest, Begins, Reading, Token, Refused, IsKind, IsAscii, ReadsWord}
 use Rattle.js_lex.proofs.Truths.{cond_yes, cond_no, either, and_first, and_second, and_both, not_yes, part_name, all_of, in_all}
@@ -27,8 +30,8 @@ begins_all (u ∷ z) (b ∷ w) h e =
     let x = eqb-true u b (and_first (u == b) (begins z w) h) in
     let y = begins_all z w (and_second (u == b) (begins z w) h) (omega (arith, e)) in cc
 
-same_yes : (z w : Text) → code.same_text z w ≡ true → z ≡ w
-same_yes z w h = begins_all z w (and_first (begins z w) (length z == length w) h) (eqb-true (length z) (length w) (and_second (begins z w) (length z == length w) h))
+told_yes : (z w : Text) → (begins z w && (length z == length w)) ≡ true → z ≡ w
+told_yes z w h = begins_all z w (and_first (begins z w) (length z == length w) h) (eqb-true (length z) (length w) (and_second (begins z w) (length z == length w) h))
 
 eq_self : (n : ℕ) → (n == n) ≡ true
 eq_self n = eq-eqb n n refl
@@ -37,24 +40,42 @@ pub begins_self : (w : Text) → begins w w ≡ true
 begins_self [] = refl
 begins_self (u ∷ w) = and_both (u == u) (begins w w) (eq_self u) (begins_self w)
 
-same_self : (w : Text) → code.same_text w w ≡ true
-same_self w = and_both (begins w w) (length w == length w) (begins_self w) (eq_self (length w))
+told_self : (w : Text) → (begins w w && (length w == length w)) ≡ true
+told_self w = and_both (begins w w) (length w == length w) (begins_self w) (eq_self (length w))
+
+same_yes : (z w : Text) → bytes_eq z w ≡ true → z ≡ w
+same_yes z w h = (bytes_eq-Decides z w).0 h
+
+same_self : (w : Text) → bytes_eq w w ≡ true
+same_self w = (bytes_eq-Decides w w).1 refl
+
+both_told : (a b : Bool) → (a ≡ true → b ≡ true) → (b ≡ true → a ≡ true) → a ≡ b
+both_told true b f g = sym (f refl)
+both_told false true f g = g refl
+both_told false false f g = refl
+
+-- a word that the text begins with, and as long
+pub same_told : (z w : Text) → (begins z w && (length z == length w)) ≡ bytes_eq z w
+same_told z w =
+    both_told (begins z w && (length z == length w)) (bytes_eq z w)
+    (λ h. subst (λ (x : Text). bytes_eq z x ≡ true) (told_yes z w h) (same_self z))
+    (λ h. subst (λ (x : Text). (begins z x && (length z == length x)) ≡ true) (same_yes z w h) (told_self z))
 
 abbrev FoundIn : List (Text × Reserved) → Text → Option Reserved → Type 0
 FoundIn ts w None = (r : Reserved) → In (w, r) ts → ⊥
 FoundIn ts w (Some r) = In (w, r) ts
 
-find_at : (w : Text) (x : Text × Reserved) (xs : List (Text × Reserved)) (b : Bool) (o : Option Reserved) → code.same_text w x.0 ≡ b → FoundIn xs w o → FoundIn (x ∷ xs) w (cond b (Some x.1) o)
+find_at : (w : Text) (x : Text × Reserved) (xs : List (Text × Reserved)) (b : Bool) (o : Option Reserved) → bytes_eq w x.0 ≡ b → FoundIn xs w o → FoundIn (x ∷ xs) w (cond b (Some x.1) o)
 find_at w x xs true o e h = inl (ap (λ (z : Text). let r : Text × Reserved = (z, x.1) in r) (sym (same_yes w x.0 e)))
 find_at w x xs false None e h = λ r i. elim i [
-  | inl s ↦ (let y : code.same_text w x.0 ≡ code.same_text w w = ap (λ (z : Text × Reserved). code.same_text w z.0) s in let t = same_self w in cc)
+  | inl s ↦ (let y : bytes_eq w x.0 ≡ bytes_eq w w = ap (λ (z : Text × Reserved). bytes_eq w z.0) s in let t = same_self w in cc)
   | inr j ↦ h r j
 ]
 find_at w x xs false (Some r) e h = inr h
 
 find_sound : (xs : List (Text × Reserved)) (w : Text) → FoundIn xs w (code.find_word xs w)
 find_sound [] w = λ r i. absurd i
-find_sound (x ∷ xs) w = find_at w x xs (code.same_text w x.0) (code.find_word xs w) refl (find_sound xs w)
+find_sound (x ∷ xs) w = find_at w x xs (bytes_eq w x.0) (code.find_word xs w) refl (find_sound xs w)
 
 kind_at : (w : Text) (o : Option Reserved) → FoundIn reserved_words w o → IsKind w (code.word_or_name w o)
 kind_at w (Some r) h = inl (r, h, refl)
@@ -65,7 +86,7 @@ kind_sound w = kind_at w (code.find_word reserved_words w) (find_sound reserved_
 
 abbrev distinct : List (Text × Reserved) → Bool
 distinct [] = true
-distinct (x ∷ xs) = all_of (λ (y : Text × Reserved). not (code.same_text y.0 x.0)) xs && distinct xs
+distinct (x ∷ xs) = all_of (λ (y : Text × Reserved). not (bytes_eq y.0 x.0)) xs && distinct xs
 
 all_distinct : distinct reserved_words ≡ true
 all_distinct = refl
@@ -73,10 +94,10 @@ all_distinct = refl
 find_only : (xs : List (Text × Reserved)) (w : Text) (r : Reserved) → distinct xs ≡ true → In (w, r) xs → code.find_word xs w ≡ Some r
 find_only [] w r d i = absurd i
 find_only (x ∷ xs) w r d (inl e) =
-    cond_yes _ _ _ (ap (λ (y : Text × Reserved). code.same_text w y.0) e ∙ same_self w) ∙ ap (λ (y : Text × Reserved). Some y.1) e
+    cond_yes _ _ _ (ap (λ (y : Text × Reserved). bytes_eq w y.0) e ∙ same_self w) ∙ ap (λ (y : Text × Reserved). Some y.1) e
 find_only (x ∷ xs) w r d (inr i) =
-    let n = in_all (λ (y : Text × Reserved). not (code.same_text y.0 x.0)) (w, r) xs i (and_first _ (distinct xs) d) in
-    cond_no _ _ _ (not_yes (code.same_text w x.0) n) ∙ find_only xs w r (and_second _ (distinct xs) d) i
+    let n = in_all (λ (y : Text × Reserved). not (bytes_eq y.0 x.0)) (w, r) xs i (and_first _ (distinct xs) d) in
+    cond_no _ _ _ (not_yes (bytes_eq w x.0) n) ∙ find_only xs w r (and_second _ (distinct xs) d) i
 
 find_none : (w : Text) (o : Option Reserved) → FoundIn reserved_words w o → ((r : Reserved) → In (w, r) reserved_words → ⊥) → o ≡ None
 find_none w None f h = refl

@@ -1,4 +1,5 @@
--- What stands at the front of a text: of its first unit u and the units z behind it. A length counts those of z.
+-- What stands at the front of a text, of its first unit u and the units z behind it: what private functions tell. A length counts the units of z.
+-- The contract of `lex` speaks of Grammar alone.
 use Rattle.std.specs.Prelude.{◌≤◌, ℕ, ◌+◌, ◌-◌, Bool, true, false, cond, ◌&&◌, ◌||◌, ◌==◌, nat_le, nat_lt, List, [], ◌∷◌, take, drop, length, slice_index, Option, Some, None}
 use Rattle.js_lex.specs.declared.token.TokenKind.{TokenKind}
 use Rattle.js_lex.specs.declared.token.TokenKind.TheVariants as tok
@@ -18,7 +19,11 @@ use Rattle.js_lex.specs.declared.front.Front.{Front}
 use Rattle.js_lex.specs.declared.front.Front.TheVariants as front
 use Rattle.js_lex.specs.declared.front.Unread.TheVariants as bad
 use Rattle.js_lex.specs.Tables.{reserved_words, punctuators}
-use Rattle.js_lex.specs.Units.{Text, is_line_end, is_white, is_digit, is_name, is_part, past, digit_of, numeral, begins}
+use Rattle.js_lex.specs.Units.{Text, is_line_end, is_white, is_digit, is_name, is_part, digit_of}
+use Rattle.std.specs.Str.{bytes_eq}
+use Rattle.js_lex.specs.Runs.{past, past_digits, past_some, numeral, begins}
+use Rattle.js_lex.specs.Values.{max_safe, part_of}
+use Rattle.js_lex.specs.Grammar.{is, some}
 use Rattle.js_lex.specs.Letters.{body_of}
 
 -- how many units it has behind the first
@@ -32,12 +37,9 @@ Fits f n = more_units f ≤ n
 
 -- ---- names (ECMA-262, section 12.7)
 
-abbrev pub same_text : Text → Text → Bool
-same_text z w = begins z w && (length z == length w)
-
 abbrev pub find_word : List (Text × Reserved) → Text → Option Reserved
 find_word [] z = None
-find_word (r ∷ rs) z = cond (same_text z r.0) (Some r.1) (find_word rs z)
+find_word (r ∷ rs) z = cond (bytes_eq z r.0) (Some r.1) (find_word rs z)
 
 abbrev pub word_or_name : Text → Option Reserved → TokenKind
 word_or_name z (Some r) = tok.Reserved r
@@ -58,10 +60,6 @@ abbrev pub name : ℕ → Text → Front
 name u z = let n = past class.Name z 0 in cond (is_ascii u z n) (word u z n) (front.Bad bad.Identifier)
 
 -- ---- numbers (section 12.9.3)
-
--- the largest safe integer, 2^53 - 1 (section 21.1.2.8)
-abbrev pub max_safe : ℕ
-max_safe = 9007199254740991
 
 -- a literal that ends before place `at`: neither a digit nor a name may stand there
 abbrev pub ended : Text → ℕ → Front → Front
@@ -87,7 +85,7 @@ base class.Binary = 2
 base _ = 10
 
 abbrev pub past_fraction : Text → ℕ → ℕ
-past_fraction z at = cond (slice_index z at == 46) (past class.Digit z (at + 1)) at
+past_fraction z at = cond (slice_index z at == 46) (past_some class.Digit z (at + 1)) at
 
 -- within the text, `e` or `E`, and a digit, or a sign and a digit
 abbrev pub begins_exponent : Text → ℕ → Bool
@@ -98,26 +96,30 @@ begins_exponent z at =
 
 -- ExponentPart, where one stands
 abbrev pub past_exponent : Text → ℕ → ℕ
-past_exponent z at = cond (begins_exponent z at) (past class.Digit z (at + 2)) at
+past_exponent z at = cond (begins_exponent z at) (past_digits class.Digit z (at + 2)) at
 
--- a `0` before other digits, which strict mode has not (LegacyOctalIntegerLiteral, NonOctalDecimalIntegerLiteral)
+-- a `0` before a digit or a separator, which is none in strict mode (LegacyOctalIntegerLiteral, NonOctalDecimalIntegerLiteral)
 abbrev pub is_legacy : ℕ → Text → Bool
-is_legacy u z = u == 48 && is_digit (slice_index z 0)
+is_legacy u z = u == 48 && (is_digit (slice_index z 0) || slice_index z 0 == 95)
+
+-- the value of digits, where it is safe and no separator stands among them
+abbrev pub safe_value : ℕ → ℕ → Text → Option ℕ
+safe_value base n ds = cond (some (is 95) ds) None (numeral max_safe base n ds)
 
 -- digits up to place `whole`; in a longer literal, one with a fraction or an exponent, they are left out
 abbrev pub literal : ℕ → Text → ℕ → ℕ → Front
 literal u z whole end =
-    cond (end == whole) (integer z whole (numeral max_safe 10 (digit_of u) (take whole z))) (ended z end (front.Bad bad.Number))
+    cond (end == whole) (integer z whole (safe_value 10 (digit_of u) (take whole z))) (ended z end (front.Bad bad.Number))
 
 abbrev pub digits : ℕ → Text → Front
-digits u z = let whole = past class.Digit z 0 in literal u z whole (past_exponent z (past_fraction z whole))
+digits u z = let whole = past_digits class.Digit z 0 in literal u z whole (past_exponent z (past_fraction z whole))
 
 abbrev pub decimal : ℕ → Text → Front
 decimal u z = cond (is_legacy u z) (front.Bad bad.Syntax) (digits u z)
 
 -- a literal of another base, which has a digit
 abbrev pub in_base : Class → Text → Front
-in_base c z = let end = past c z 1 in cond (end == 1) (front.Bad bad.Syntax) (integer z end (numeral max_safe (base c) 0 (take (end - 1) (drop 1 z))))
+in_base c z = let end = past_some c z 1 in cond (end == 1) (front.Bad bad.Syntax) (integer z end (safe_value (base c) 0 (take (end - 1) (drop 1 z))))
 
 abbrev pub number_by : ℕ → Text → Option Class → Front
 number_by u z None = decimal u z
@@ -128,7 +130,7 @@ number u z = number_by u z (radix (slice_index z 0))
 
 -- a fraction that begins with its point
 abbrev pub point : Text → Front
-point z = ended z (past_exponent z (past class.Digit z 0)) (front.Bad bad.Number)
+point z = ended z (past_exponent z (past_some class.Digit z 0)) (front.Bad bad.Number)
 
 -- ---- strings and templates (sections 12.9.4 and 12.9.6)
 
@@ -138,12 +140,6 @@ string_of (Some b) = front.Token (tok.Text b.value) b.units
 
 abbrev pub string : Quote → Text → Front
 string q z = string_of (body_of q 0 z)
-
-abbrev pub part_of : Bool → Ending → TemplatePart
-part_of true ending.Closed = part.Whole
-part_of true ending.Hole = part.Head
-part_of false ending.Closed = part.Tail
-part_of false ending.Hole = part.Middle
 
 abbrev pub template_of : Bool → Option Body → Front
 template_of begins_ None = front.Bad bad.Syntax

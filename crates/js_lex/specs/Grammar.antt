@@ -1,5 +1,5 @@
 -- The elements of a script's text (ECMA-262, section 12): what each one is, and which one a text has at its front.
-use Rattle.std.specs.Prelude.{◌≡◌, ◌≤◌, ◌<◌, ℕ, ◌+◌, Bool, true, false, not, ◌||◌, ◌==◌, List, [], ◌∷◌, ◌++◌, ◌⊎◌, length, flat_map, Option, Some, None}
+use Rattle.std.specs.Prelude.{◌≡◌, ◌≤◌, ◌<◌, ℕ, ◌+◌, Bool, true, false, cond, not, ◌||◌, ◌==◌, List, [], ◌∷◌, ◌++◌, ◌⊎◌, length, flat_map, Option, Some, None}
 use Rattle.js_lex.specs.declared.token.TokenKind.{TokenKind}
 use Rattle.js_lex.specs.declared.token.TokenKind.TheVariants as tok
 use Rattle.js_lex.specs.declared.token.Token.{Token as Placed}
@@ -14,9 +14,8 @@ use Rattle.js_lex.specs.declared.letters.Ending.{Ending}
 use Rattle.js_lex.specs.declared.letters.Ending.TheVariants as ending
 use Rattle.js_lex.specs.Tables.{reserved_words, punctuators}
 use Rattle.js_lex.specs.Units.{Text, is_line_end, is_white, is_digit, is_hex, is_name, is_part, is_between, value}
-use Rattle.js_lex.specs.Letters.{meant, encoded, escaped}
-use Rattle.js_lex.specs.Front.{max_safe, part_of}
-use Rattle.js_lex.specs.Lexed.{in_hole, braces, fault, token}
+use Rattle.js_lex.specs.Values.{meant, encoded, escaped, max_safe, part_of}
+use Rattle.js_lex.specs.Places.{in_hole, braces, fault, token}
 
 abbrev pub Passes : (ℕ → Bool) → ℕ → Type 0
 Passes f u = f u ≡ true
@@ -49,14 +48,15 @@ NoEnd (u ∷ z) = ((u == 42) ≡ true → NotNext (is 47) z) × NoEnd z
 
 -- ---- numbers (section 12.9.3)
 
--- DecimalDigits, and the digits of the other bases
-abbrev pub Digits : (ℕ → Bool) → Text → Type 0
-Digits f ds = Every (Passes f) ds × (1 ≤ length ds)
+-- DecimalDigits, and the digits of the other bases, with NumericLiteralSeparator, `_`, between two of them or not; `true` where a digit comes next
+abbrev pub Digits : (ℕ → Bool) → Bool → Text → Type 0
+Digits f next [] = next ≡ false
+Digits f next (u ∷ z) = ((f u ≡ true) × Digits f false z) ⊎ ((u ≡ 95) × (next ≡ false) × Digits f true z)
 
 -- DecimalIntegerLiteral: `0`, or digits of which the first is none
 abbrev pub IsInteger : Text → Type 0
 IsInteger [] = ⊥
-IsInteger (d ∷ ds) = (is_digit d ≡ true) × Every (Passes is_digit) ds × ((d == 48) ≡ true → ds ≡ [])
+IsInteger (d ∷ ds) = (is_digit d ≡ true) × Digits is_digit false ds × ((d == 48) ≡ true → ds ≡ [])
 
 -- NonDecimalIntegerLiteral: the two letters of each base, and its digits
 pub data Radix : Type 0 where
@@ -91,7 +91,11 @@ exponent_units (Exponential e s ds) = e ∷ (s ++ ds)
 
 abbrev pub IsExponent : Exponent → Type 0
 IsExponent NoExponent = Unit {0}
-IsExponent (Exponential e s ds) = ((e == 101 || e == 69) ≡ true) × In s ([] ∷ (43 ∷ []) ∷ (45 ∷ []) ∷ []) × Digits is_digit ds
+IsExponent (Exponential e s ds) = ((e == 101 || e == 69) ≡ true) × In s ([] ∷ (43 ∷ []) ∷ (45 ∷ []) ∷ []) × Digits is_digit true ds
+
+-- digits, or nothing
+abbrev pub OrNone : (ℕ → Bool) → Text → Type 0
+OrNone f ds = (ds ≡ []) ⊎ Digits f true ds
 
 -- `.` and digits, perhaps none; or nothing
 pub data Fraction : Type 0 where
@@ -104,7 +108,7 @@ fraction_units (Fractional fs) = 46 ∷ fs
 
 abbrev pub IsFraction : Fraction → Type 0
 IsFraction NoFraction = Unit {0}
-IsFraction (Fractional fs) = Every (Passes is_digit) fs
+IsFraction (Fractional fs) = OrNone is_digit fs
 
 pub data Number : Type 0 where
   -- DecimalLiteral: an integer, a fraction and an exponent
@@ -128,9 +132,9 @@ number_units (Based r m ds b) = 48 ∷ m ∷ (ds ++ suffix b)
 
 abbrev pub IsNumber : Number → Type 0
 IsNumber (Decimal ds f e) = IsInteger ds × IsFraction f × IsExponent e
-IsNumber (Point fs e) = Digits is_digit fs × IsExponent e
+IsNumber (Point fs e) = Digits is_digit true fs × IsExponent e
 IsNumber (Big ds) = IsInteger ds
-IsNumber (Based r m ds b) = (is_mark r m ≡ true) × Digits (is_digit_of r) ds
+IsNumber (Based r m ds b) = (is_mark r m ≡ true) × Digits (is_digit_of r) true ds
 
 -- ---- the characters of strings and templates (sections 12.9.4 and 12.9.6)
 
@@ -187,6 +191,10 @@ IsPlain quote.Single u z = (u == 39 || (u == 92 || (u == 10 || u == 13))) ≡ fa
 IsPlain quote.Double u z = (u == 34 || (u == 92 || (u == 10 || u == 13))) ≡ false
 IsPlain quote.Template u z = ((u == 96 || (u == 92 || u == 13)) ≡ false) × ((u == 36) ≡ true → NotNext (is 123) z)
 
+-- HexDigits, here without separators
+abbrev pub HexDigits : Text → Type 0
+HexDigits ds = Every (Passes is_hex) ds × (1 ≤ length ds)
+
 -- the character stands in such a literal, with a text behind it
 abbrev pub StandsIn : Quote → Character → Text → Type 0
 StandsIn q (Plain u) z = IsPlain q u z
@@ -195,7 +203,7 @@ StandsIn q (Escape u) z = (u == 120 || (u == 117 || (is_digit u || is_line_end u
 StandsIn q Nul z = NotNext is_digit z
 StandsIn q (HexPair h l) z = Every (Passes is_hex) (h ∷ l ∷ [])
 StandsIn q (Four a b c d) z = Every (Passes is_hex) (a ∷ b ∷ c ∷ d ∷ [])
-StandsIn q (CodePoint ds) z = Digits is_hex ds × (value 16 0 ds ≤ 1114111)
+StandsIn q (CodePoint ds) z = HexDigits ds × (value 16 0 ds ≤ 1114111)
 StandsIn q (Continued e) z = LineEnds e z
 
 abbrev pub characters_units : List Character → Text
@@ -310,10 +318,14 @@ IsAscii w = Every (Passes is_part) w
 abbrev pub ReadsWord : Text → Reading → Type 0
 ReadsWord w r = (IsAscii w × ((k : TokenKind) × IsKind w k × (r ≡ Token k))) ⊎ ((IsAscii w → ⊥) × (r ≡ Refused bad.Identifier))
 
--- section 12.9.3.3, MV, of the numbers that are read: integers without `n`
+-- section 12.9.3.3, MV, of digits without separators
+abbrev pub digits_value : ℕ → Text → Option ℕ
+digits_value base ds = cond (some (is 95) ds) None (Some (value base 0 ds))
+
+-- of the numbers that are read: integers without separators and `n`
 abbrev pub number_value : Number → Option ℕ
-number_value (Decimal ds NoFraction NoExponent) = Some (value 10 0 ds)
-number_value (Based r m ds false) = Some (value (radix_value r) 0 ds)
+number_value (Decimal ds NoFraction NoExponent) = digits_value 10 ds
+number_value (Based r m ds false) = digits_value (radix_value r) ds
 number_value _ = None
 
 -- a safe integer is read

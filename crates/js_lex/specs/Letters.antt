@@ -1,4 +1,4 @@
--- What the units of string literals and templates stand for.
+-- The letters of string literals and templates: what private functions tell. The contract of `lex` speaks of Grammar alone.
 use Rattle.std.specs.Prelude.{◌≤◌, ℕ, zero, suc, ◌+◌, ◌-◌, ◌*◌, ◌/◌, ◌%◌, cond, not, ◌&&◌, ◌||◌, ◌==◌, nat_le, List, [], ◌∷◌, ◌++◌, take, drop, length, slice_index, Option, Some, None}
 use Rattle.js_lex.specs.declared.units.Class.TheVariants as class
 use Rattle.js_lex.specs.declared.letters.Quote.{Quote}
@@ -11,12 +11,9 @@ use Rattle.js_lex.specs.declared.letters.Ending.TheVariants as ending
 use Rattle.js_lex.specs.declared.letters.Next.{Next}
 use Rattle.js_lex.specs.declared.letters.Next.TheVariants as next
 use Rattle.js_lex.specs.declared.letters.Body.{Body}
-use Rattle.js_lex.specs.Units.{Text, is_line_end, is_digit, is_hex, past, digit_of, numeral}
-
-abbrev pub meant : Meaning → List ℕ
-meant m.Nothing = []
-meant (m.One u) = u ∷ []
-meant (m.Pair u v) = u ∷ v ∷ []
+use Rattle.js_lex.specs.Units.{Text, is_line_end, is_digit, is_hex, digit_of}
+use Rattle.js_lex.specs.Runs.{past, numeral}
+use Rattle.js_lex.specs.Values.{meant, encoded, escaped}
 
 -- a letter of one unit and n more
 abbrev pub one : ℕ → ℕ → Option Letter
@@ -24,11 +21,7 @@ one n u = Some (record { more = n; meaning = m.One u })
 
 -- ---- escapes: of the text behind `\`
 
--- ECMA-262, section 11.1.1, UTF16EncodeCodePoint
-abbrev pub encoded : ℕ → Meaning
-encoded c = cond (nat_le 65536 c) (m.Pair (55296 + (c - 65536) / 1024) (56320 + (c - 65536) % 1024)) (m.One c)
-
--- section 12.9.4, HexEscapeSequence: two digits behind `x`
+-- ECMA-262, section 12.9.4, HexEscapeSequence: two digits behind `x`
 abbrev pub hex_escape : Text → Option Letter
 hex_escape z = let h = slice_index z 0 in let l = slice_index z 1 in cond (nat_le 2 (length z) && (is_hex h && is_hex l)) (one 3 (16 * digit_of h + digit_of l)) None
 
@@ -52,10 +45,6 @@ code_point z = let n = past class.Hex z 0 in cond (n == 0 || not (slice_index z 
 -- UnicodeEscapeSequence
 abbrev pub unicode_escape : Text → Option Letter
 unicode_escape z = cond (slice_index z 0 == 123) (code_point (drop 1 z)) (four_digits z)
-
--- SingleEscapeCharacter and NonEscapeCharacter: n t r b f v, and any other unit for itself
-abbrev pub escaped : ℕ → ℕ
-escaped u = cond (u == 110) 10 (cond (u == 116) 9 (cond (u == 114) 13 (cond (u == 98) 8 (cond (u == 102) 12 (cond (u == 118) 11 u)))))
 
 -- `0` before no digit is NUL; no other digit may stand here
 abbrev pub digit_escape : ℕ → Text → Option Letter

@@ -1,7 +1,9 @@
 pub mod Tables
 pub mod Units
+pub mod Values
+pub mod Places
+pub mod Grammar
+pub mod Runs
 pub mod Letters
 pub mod Front
-pub mod Lexed
-pub mod Grammar
 pub mod Scan

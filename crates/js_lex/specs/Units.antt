@@ -1,8 +1,5 @@
--- Classes of UTF-16 units, and the numbers that digits stand for.
+-- Classes of UTF-16 units, and the numbers that digits stand for (ECMA-262, sections 12.2, 12.3, 12.7 and 12.9.3).
 use Rattle.std.specs.Prelude.{ℕ, ◌+◌, ◌-◌, ◌*◌, Bool, true, false, cond, not, ◌&&◌, ◌||◌, ◌==◌, nat_le, List, [], ◌∷◌, drop, Option, Some, None}
-use Rattle.std.specs.List.{prefix_len}
-use Rattle.js_lex.specs.declared.units.Class.{Class}
-use Rattle.js_lex.specs.declared.units.Class.TheVariants as class
 
 -- units, in order
 abbrev pub Text : Type 0
@@ -35,19 +32,6 @@ is_part u = (is_between 65 90 u || is_between 97 122 u) || (is_digit u || (u == 
 abbrev pub is_name : ℕ → Bool
 is_name u = is_part u || (nat_le 128 u && not (is_white u || is_line_end u))
 
-abbrev pub is_in : Class → ℕ → Bool
-is_in class.Name u = is_name u
-is_in class.Part u = is_part u
-is_in class.Digit u = is_digit u
-is_in class.Hex u = is_hex u
-is_in class.Octal u = is_between 48 55 u
-is_in class.Binary u = is_between 48 49 u
-is_in class.Line u = not (is_line_end u)
-
--- the first place from `at` on whose unit is not of the class
-abbrev pub past : Class → Text → ℕ → ℕ
-past c z at = at + prefix_len (is_in c) (drop at z)
-
 -- the value of a digit of any base
 abbrev pub digit_of : ℕ → ℕ
 digit_of u = cond (is_digit u) (u - 48) (cond (is_between 65 70 u) (u - 65 + 10) (cond (is_between 97 102 u) (u - 97 + 10) 0))
@@ -56,16 +40,3 @@ digit_of u = cond (is_digit u) (u - 48) (cond (is_between 65 70 u) (u - 65 + 10)
 abbrev pub value : ℕ → ℕ → Text → ℕ
 value base n [] = n
 value base n (d ∷ ds) = value base (n * base + digit_of d) ds
-
-abbrev pub at_most : ℕ → ℕ → Option ℕ
-at_most max n = cond (nat_le n max) (Some n) None
-
--- that number, where it is at most `max`
-abbrev pub numeral : ℕ → ℕ → ℕ → Text → Option ℕ
-numeral max base n ds = at_most max (value base n ds)
-
--- the text begins with the word
-abbrev pub begins : Text → Text → Bool
-begins z [] = true
-begins [] (b ∷ w) = false
-begins (u ∷ z) (b ∷ w) = u == b && begins z w

@@ -1,5 +1,7 @@
 ghost use Rattle.std.specs.Prelude.{◌≡◌, ◌≢◌, ◌-◌, IsTrue, ◌≤◌, ◌<◌, ◌+◌, [], ◌∷◌, ◌++◌, length, map, IfOk, IfSome, OnOk};
-ghost use Rattle.js_lex.specs.Units as units;
+ghost use Rattle.std.specs.Str.{bytes_eq};
+ghost use Rattle.js_lex.specs.Runs as runs;
+ghost use Rattle.js_lex.specs.Values.{part_of};
 ghost use Rattle.js_lex.specs.Front as spec;
 ghost use Rattle.js_lex.specs.Tables as tables;
 
@@ -7,7 +9,8 @@ use crate::letters::{Body, Ending, Quote, body_of};
 use crate::tables::{PUNCTUATORS, RESERVED};
 use crate::token::{Punctuator, Reserved, TemplatePart, TokenKind};
 use crate::units::{
-    Class, begins, digit_of, is_digit, is_line_end, is_name, is_part, is_white, numeral, past, unit,
+    Class, begins, digit_of, has_separator, is_digit, is_line_end, is_name, is_part, is_white,
+    numeral, past, past_digits, past_some, unit,
 };
 use std::alloc::Global;
 use wd_base::{NoMemory, Seq, Units};
@@ -47,8 +50,9 @@ pub fn more_units(front: &Front) -> usize
 const MAX_SAFE: u64 = 9007199254740991;
 
 /// The text's units are the bytes of an ASCII word, as those of `async` or `of`.
+#[tactic(auto, using(crate::proofs::Words::same_told))]
 pub fn same_text(text: &[u16], word: &[u8]) -> bool
-    ensures { result ≡ spec.same_text text.now word.now }
+    ensures { result ≡ bytes_eq text.now word.now }
 {
     begins(text, word) && text.len() == word.len()
 }
@@ -184,7 +188,7 @@ fn past_fraction(text: &[u16], at: usize) -> usize
     ensures within { (at ≤ result) × (result ≤ length text.now) }
 {
     if unit(text, at) == 46 {
-        past(Class::Digit, text, at + 1)
+        past_some(Class::Digit, text, at + 1)
     } else {
         at
     }
@@ -208,17 +212,30 @@ fn past_exponent(text: &[u16], at: usize) -> usize
     ensures within { (at ≤ result) × (result ≤ length text.now) }
 {
     if begins_exponent(text, at) {
-        past(Class::Digit, text, at + 2)
+        past_digits(Class::Digit, text, at + 2)
     } else {
         at
     }
 }
 
-/// A `0` before other digits.
+/// A `0` before a digit or a separator.
 fn is_legacy(first: u16, text: &[u16]) -> bool
     ensures { result ≡ spec.is_legacy first text.now }
 {
-    first == 48 && is_digit(unit(text, 0))
+    first == 48 && (is_digit(unit(text, 0)) || unit(text, 0) == 95)
+}
+
+/// The value of digits, where it is safe and no separator stands among them.
+fn safe_value(base: u64, first: u64, digits: &[u16]) -> Option<u64>
+    requires first { first ≤ 15 }
+    requires base { (1 ≤ base) × (base ≤ 16) }
+    ensures { result ≡ spec.safe_value base first digits.now }
+{
+    if has_separator(digits) {
+        None
+    } else {
+        numeral(MAX_SAFE, base, first, digits)
+    }
 }
 
 /// Digits up to a place, in a literal that ends before another one.
@@ -228,7 +245,7 @@ fn literal(first: u16, text: &[u16], whole: usize, end: usize) -> Front
     ensures fits { spec.Fits result (length text.now) }
 {
     if end == whole {
-        let value = numeral(MAX_SAFE, 10, digit_of(first), &text[..whole]);
+        let value = safe_value(10, digit_of(first), &text[..whole]);
         integer(text, whole, value)
     } else {
         ended(text, end, Front::Bad(Unread::Number))
@@ -239,7 +256,7 @@ fn digits(first: u16, text: &[u16]) -> Front
     ensures value { result ≡ spec.digits first text.now }
     ensures fits { spec.Fits result (length text.now) }
 {
-    let whole = past(Class::Digit, text, 0);
+    let whole = past_digits(Class::Digit, text, 0);
     let end = past_exponent(text, past_fraction(text, whole));
     literal(first, text, whole, end)
 }
@@ -260,11 +277,11 @@ fn in_base(class: Class, text: &[u16]) -> Front
     ensures value { result ≡ spec.in_base class text.now }
     ensures fits { spec.Fits result (length text.now) }
 {
-    let end = past(class, text, 1);
+    let end = past_some(class, text, 1);
     if end == 1 {
         Front::Bad(Unread::Syntax)
     } else {
-        integer(text, end, numeral(MAX_SAFE, base(class), 0, &text[1..end]))
+        integer(text, end, safe_value(base(class), 0, &text[1..end]))
     }
 }
 
@@ -289,7 +306,7 @@ fn point(text: &[u16]) -> Front
     ensures value { result ≡ spec.point text.now }
     ensures fits { spec.Fits result (length text.now) }
 {
-    let end = past_exponent(text, past(Class::Digit, text, 0));
+    let end = past_exponent(text, past_some(Class::Digit, text, 0));
     ended(text, end, Front::Bad(Unread::Number))
 }
 
@@ -304,7 +321,7 @@ fn string(alloc: Global, quote: Quote, text: &[u16]) -> Result<Front, NoMemory>
 }
 
 fn part_of(is_first: bool, ending: Ending) -> TemplatePart
-    ensures { result ≡ spec.part_of is_first ending }
+    ensures { result ≡ part_of is_first ending }
 {
     match (is_first, ending) {
         (true, Ending::Closed) => TemplatePart::Whole,
@@ -367,7 +384,7 @@ fn commented(text: &[u16]) -> Front
 
 /// A unit and the text behind it begin with the word.
 fn begins_with(first: u16, text: &[u16], word: &[u8]) -> bool
-    ensures value { result ≡ units.begins (first ∷ text.now) word.now }
+    ensures value { result ≡ runs.begins (first ∷ text.now) word.now }
     ensures fits { IsTrue result → length word.now - 1 ≤ length text.now }
 {
     match word {

@@ -1,5 +1,6 @@
 ghost use Rattle.std.specs.Prelude.{◌≡◌, ◌≤◌, ◌<◌, ◌+◌, [], ◌++◌, length, IfOk, IfSome, OnOk};
 ghost use Rattle.js_lex.specs.Letters as spec;
+ghost use Rattle.js_lex.specs.Values.{encoded, escaped, meant};
 
 use crate::units::{Class, digit_of, is_digit, is_hex, is_line_end, numeral, past, unit};
 use std::alloc::Global;
@@ -64,7 +65,7 @@ fn one(more: usize, unit: u16) -> Option<Letter>
 
 fn encoded(code: u64) -> Meaning
     requires { code ≤ 1114111 }
-    ensures { result ≡ spec.encoded code }
+    ensures { result ≡ encoded code }
 {
     if 65536 <= code {
         let above = code - 65536;
@@ -144,7 +145,7 @@ fn unicode_escape(text: &[u16]) -> Option<Letter>
 
 /// What a unit stands for behind `\`.
 fn escaped(unit: u16) -> u16
-    ensures { result ≡ spec.escaped unit }
+    ensures { result ≡ escaped unit }
 {
     match unit {
         110 => 10,
@@ -307,7 +308,7 @@ fn next_of(quote: Quote, first: u16, text: &[u16]) -> Next
 }
 
 fn push_meaning(units: &mut Units, meaning: Meaning) -> Result<(), NoMemory>
-    ensures { OnOk result (units.new ≡ units.old ++ spec.meant meaning) }
+    ensures { OnOk result (units.new ≡ units.old ++ meant meaning) }
 {
     match meaning {
         Meaning::Nothing => {}

@@ -1,7 +1,7 @@
 ghost use Rattle.std.specs.Prelude.{◌≡◌, ◌≤◌, ◌<◌, ◌+◌, [], ◌∷◌, ◌++◌, ◌^◌, drop, length, IfOk};
-ghost use Rattle.js_lex.specs.Lexed as spec;
+ghost use Rattle.js_lex.specs.Places as spec;
 ghost use Rattle.js_lex.specs.Front.{more_units};
-ghost use Rattle.js_lex.specs.Scan.{taken};
+ghost use Rattle.js_lex.specs.Scan.{taken, tokens_of};
 
 use crate::front::{Front, Unread, front_of, more_units};
 use crate::stack::Stack;
@@ -143,7 +143,7 @@ fn take(alloc: Global, state: State, front: Front) -> Result<Step, NoMemory>
 }
 
 fn scan(alloc: Global, mut text: &[u16]) -> Result<Tokens, NoMemory>
-    ensures { IfOk result (λ tokens. tokens ≡ spec.tokens_of text.entry.now) }
+    ensures { IfOk result (λ tokens. tokens ≡ tokens_of text.entry.now) }
 {
     let mut state = State {
         tokens: Seq::new(alloc),
@@ -173,7 +173,7 @@ fn scan(alloc: Global, mut text: &[u16]) -> Result<Tokens, NoMemory>
 /// The tokens of a script: the longest one at each place, up to `End`, or up to `Bad` at the first
 /// place where none can be read. `docs/SCRIPTS.md` has the grammar. `Err` is want of memory.
 pub fn lex(alloc: Global, units: &Units) -> Result<Tokens, NoMemory>
-    ensures { IfOk result (λ tokens. tokens ≡ spec.tokens_of units.now) }
+    ensures { IfOk result (λ tokens. tokens ≡ tokens_of units.now) }
 {
     scan(alloc, units.as_slice())
 }

@@ -1,4 +1,6 @@
-ghost use Rattle.std.specs.Prelude.{◌≡◌, ◌≢◌, ◌≤◌, ◌<◌, ◌^◌, length, slice_index, IfSome, IsTrue};
+ghost use Rattle.std.specs.Prelude.{◌≡◌, ◌≢◌, ◌≤◌, ◌<◌, ◌^◌, ◌+◌, drop, length, slice_index, IfSome, IsTrue};
+ghost use Rattle.js_lex.specs.Grammar.{is, some};
+ghost use Rattle.js_lex.specs.Runs as runs;
 ghost use Rattle.js_lex.specs.Units as spec;
 
 /// A class of UTF-16 units.
@@ -62,7 +64,7 @@ pub fn is_name(unit: u16) -> bool
 }
 
 fn is_in(class: Class, unit: u16) -> bool
-    ensures { result ≡ spec.is_in class unit }
+    ensures { result ≡ runs.is_in class unit }
 {
     match class {
         Class::Name => is_name(unit),
@@ -86,7 +88,7 @@ pub fn unit(text: &[u16], at: usize) -> u16
 /// The first place from `at` on whose unit is not of the class.
 pub fn past(class: Class, text: &[u16], at: usize) -> usize
     requires { at ≤ length text.now }
-    ensures value { result ≡ spec.past class text.now at }
+    ensures value { result ≡ runs.past class text.now at }
     ensures within { (at ≤ result) × (result ≤ length text.now) }
 {
     let mut end = at;
@@ -94,6 +96,54 @@ pub fn past(class: Class, text: &[u16], at: usize) -> usize
         end += 1;
     }
     end
+}
+
+/// The unit at a place is a digit of the class, or a separator, `_`, before one.
+fn goes_on(class: Class, text: &[u16], at: usize) -> bool
+    requires { at < length text.now }
+    ensures { result ≡ runs.goes_on (runs.is_in class) (slice_index text.now at) (drop (at + 1) text.now) }
+{
+    is_in(class, text[at]) || (text[at] == 95 && is_in(class, unit(text, at + 1)))
+}
+
+/// The first place from `at` on whose unit is neither a digit of the class nor a separator between
+/// two of them, where a digit stands before `at`.
+pub fn past_digits(class: Class, text: &[u16], at: usize) -> usize
+    requires { at ≤ length text.now }
+    ensures value { result ≡ runs.past_digits class text.now at }
+    ensures within { (at ≤ result) × (result ≤ length text.now) }
+{
+    let mut end = at;
+    while end < text.len() && goes_on(class, text, end) {
+        end += 1;
+    }
+    end
+}
+
+/// The same, where a digit has to be the first.
+pub fn past_some(class: Class, text: &[u16], at: usize) -> usize
+    requires { at ≤ length text.now }
+    ensures value { result ≡ runs.past_some class text.now at }
+    ensures within { (at ≤ result) × (result ≤ length text.now) }
+{
+    if is_in(class, unit(text, at)) {
+        past_digits(class, text, at)
+    } else {
+        at
+    }
+}
+
+/// A separator stands among the units.
+pub fn has_separator(mut text: &[u16]) -> bool
+    ensures { result ≡ some (is 95) text.entry.now }
+{
+    while let [unit, rest @ ..] = text {
+        if *unit == 95 {
+            return true;
+        }
+        text = rest;
+    }
+    false
 }
 
 /// The value of a digit of any base, and 0 for another unit.
@@ -117,7 +167,7 @@ pub fn numeral(max: u64, base: u64, first: u64, mut digits: &[u16]) -> Option<u6
     requires max { max < 2 ^ 58 }
     requires first { first ≤ max }
     requires base { (1 ≤ base) × (base ≤ 16) }
-    ensures value { result ≡ spec.numeral max base first digits.entry.now }
+    ensures value { result ≡ runs.numeral max base first digits.entry.now }
     ensures within { IfSome result (λ number. number ≤ max) }
 {
     let mut value = first;
@@ -133,7 +183,7 @@ pub fn numeral(max: u64, base: u64, first: u64, mut digits: &[u16]) -> Option<u6
 
 /// The text begins with the word.
 pub fn begins(mut text: &[u16], mut word: &[u8]) -> bool
-    ensures value { result ≡ spec.begins text.entry.now word.entry.now }
+    ensures value { result ≡ runs.begins text.entry.now word.entry.now }
     ensures fits { IsTrue result → length word.entry.now ≤ length text.entry.now }
 {
     while let [byte, others @ ..] = word {

@@ -2,9 +2,9 @@ use Rattle.std.proofs.Common.{◌≡◌, ℕ, ◌+◌, ◌-◌, ◌≤◌, Bool,
 use Rattle.std.specs.Prelude.{slice_index}
 use Rattle.std.proofs.lemmas.List.{take_rest, length-drop}
 use Rattle.js_lex.specs.declared.scan.Step.TheVariants as step
+use Rattle.js_lex.specs.Places.{in_hole}
 use Rattle.js_lex.specs.Front.{front_of, more_units}
-use Rattle.js_lex.specs.Lexed.{in_hole, tokens_of}
-use Rattle.js_lex.specs.Scan.{taken}
+use Rattle.js_lex.specs.Scan.{tokens_of, taken}
 use Rattle.js_lex.proofs.ScanLemmas.{goes, goes_place, stops}
 use Rattle.js_lex.proofs.scan.scan.Goals as goal
 

@@ -1,5 +1,5 @@
 use Rattle.std.proofs.Common.{◌≡◌, ◌+◌, length}
-use Rattle.js_lex.specs.Units.{begins}
+use Rattle.js_lex.specs.Runs.{begins}
 use Rattle.js_lex.proofs.units.begins.Given as goal
 
 abbrev pub invariant-loop-word : goal.invariant-loop-word

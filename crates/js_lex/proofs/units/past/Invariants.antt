@@ -1,6 +1,6 @@
 use Rattle.std.proofs.Common.{◌≡◌, ◌+◌, ◌-◌, ◌≤◌, length, drop}
 use Rattle.std.specs.List.{prefix_len}
-use Rattle.js_lex.specs.Units.{is_in}
+use Rattle.js_lex.specs.Runs.{is_in}
 use Rattle.js_lex.proofs.units.past.Given as goal
 
 abbrev pub invariant-loop-end : goal.invariant-loop-end

@@ -1,5 +1,5 @@
--- The tokens of a script (ECMA-262, section 12).
-use Rattle.std.specs.Prelude.{ℕ, zero, suc, ◌+◌, Bool, true, false, ◌||◌, List, [], ◌∷◌, drop, codes, Option, Some, slice_get}
+-- The tokens with their places, and the braces that are open between them (ECMA-262, section 12).
+use Rattle.std.specs.Prelude.{ℕ, Bool, true, false, List, [], ◌∷◌, drop, codes, Option, Some, slice_get}
 use Rattle.js_lex.specs.declared.token.TokenKind.{TokenKind}
 use Rattle.js_lex.specs.declared.token.TokenKind.TheVariants as tok
 use Rattle.js_lex.specs.declared.token.Token.{Token}
@@ -9,12 +9,8 @@ use Rattle.js_lex.specs.declared.token.ScriptKind.TheVariants as kind
 use Rattle.js_lex.specs.declared.token.ScriptFault.{ScriptFault}
 use Rattle.js_lex.specs.declared.scan.Brace.{Brace}
 use Rattle.js_lex.specs.declared.scan.Brace.TheVariants as brace
-use Rattle.js_lex.specs.declared.front.Front.{Front}
-use Rattle.js_lex.specs.declared.front.Front.TheVariants as front
 use Rattle.js_lex.specs.declared.front.Unread.{Unread}
 use Rattle.js_lex.specs.declared.front.Unread.TheVariants as bad
-use Rattle.js_lex.specs.Units.{Text}
-use Rattle.js_lex.specs.Front.{front_of}
 
 -- the innermost open brace is `${`
 abbrev pub is_hole : Option Brace → Bool
@@ -39,19 +35,3 @@ fault n bad.Identifier = record { kind = kind.LeftOut; place = n; word = codes "
 
 abbrev pub token : ℕ → Bool → TokenKind → Token
 token n l k = record { place = n; after_line_end = l; kind = k }
-
--- what stands at place n, behind a line end or not, within these braces; then what comes behind it
-abbrev pub put : ℕ → Bool → List Brace → Front → (ℕ → ℕ → Bool → List Brace → List Token) → List Token
-put n l bs (front.Gap more ends) f = f more (n + (1 + more)) (l || ends) bs
-put n l bs (front.Token k more) f = token n l k ∷ f more (n + (1 + more)) false (braces k bs)
-put n l bs (front.Bad why) f = token n l (tok.Bad (fault n why)) ∷ []
-
--- the tokens of a text, where the first units, so many, are of what stood before
-abbrev pub tokens_from : ℕ → ℕ → Bool → List Brace → Text → List Token
-tokens_from more n l bs [] = token n l tok.End ∷ []
-tokens_from (suc more) n l bs (u ∷ z) = tokens_from more n l bs z
-tokens_from zero n l bs (u ∷ z) = put n l bs (front_of (in_hole bs) u z) (λ more m ends cs. tokens_from more m ends cs z)
-
--- The tokens of a script.
-abbrev pub tokens_of : Text → List Token
-tokens_of z = tokens_from 0 0 false [] z
