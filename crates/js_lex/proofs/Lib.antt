@@ -18,3 +18,4 @@ pub mod Exponents
 pub mod Points
 pub mod Tails
 pub mod Decimals
+pub mod NumberValues

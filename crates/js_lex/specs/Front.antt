@@ -3,8 +3,6 @@
 use Rattle.std.specs.Prelude.{◌≤◌, ℕ, ◌+◌, ◌-◌, Bool, true, false, cond, ◌&&◌, ◌||◌, ◌==◌, nat_le, nat_lt, List, [], ◌∷◌, take, drop, length, slice_index, Option, Some, None}
 use Rattle.js_lex.specs.declared.token.TokenKind.{TokenKind}
 use Rattle.js_lex.specs.declared.token.TokenKind.TheVariants as tok
-use Rattle.js_lex.specs.declared.token.TemplatePart.{TemplatePart}
-use Rattle.js_lex.specs.declared.token.TemplatePart.TheVariants as part
 use Rattle.js_lex.specs.declared.token.Reserved.{Reserved}
 use Rattle.js_lex.specs.declared.token.Punctuator.{Punctuator}
 use Rattle.js_lex.specs.declared.token.Punctuator.TheVariants as p
@@ -12,8 +10,6 @@ use Rattle.js_lex.specs.declared.units.Class.{Class}
 use Rattle.js_lex.specs.declared.units.Class.TheVariants as class
 use Rattle.js_lex.specs.declared.letters.Quote.{Quote}
 use Rattle.js_lex.specs.declared.letters.Quote.TheVariants as quote
-use Rattle.js_lex.specs.declared.letters.Ending.{Ending}
-use Rattle.js_lex.specs.declared.letters.Ending.TheVariants as ending
 use Rattle.js_lex.specs.declared.letters.Body.{Body}
 use Rattle.js_lex.specs.declared.front.Front.{Front}
 use Rattle.js_lex.specs.declared.front.Front.TheVariants as front

@@ -1,9 +1,8 @@
 -- The letters of string literals and templates: what private functions tell. The contract of `lex` speaks of Grammar alone.
-use Rattle.std.specs.Prelude.{◌≤◌, ℕ, zero, suc, ◌+◌, ◌-◌, ◌*◌, ◌/◌, ◌%◌, cond, not, ◌&&◌, ◌||◌, ◌==◌, nat_le, List, [], ◌∷◌, ◌++◌, take, drop, length, slice_index, Option, Some, None}
+use Rattle.std.specs.Prelude.{◌≤◌, ℕ, zero, suc, ◌+◌, ◌*◌, cond, not, ◌&&◌, ◌||◌, ◌==◌, nat_le, List, [], ◌∷◌, ◌++◌, take, drop, length, slice_index, Option, Some, None}
 use Rattle.js_lex.specs.declared.units.Class.TheVariants as class
 use Rattle.js_lex.specs.declared.letters.Quote.{Quote}
 use Rattle.js_lex.specs.declared.letters.Quote.TheVariants as quote
-use Rattle.js_lex.specs.declared.letters.Meaning.{Meaning}
 use Rattle.js_lex.specs.declared.letters.Meaning.TheVariants as m
 use Rattle.js_lex.specs.declared.letters.Letter.{Letter}
 use Rattle.js_lex.specs.declared.letters.Ending.{Ending}

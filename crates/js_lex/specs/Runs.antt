@@ -1,5 +1,5 @@
 -- Where runs of units end, and the numbers of digits: what private functions tell. The contract of `lex` speaks of Grammar alone.
-use Rattle.std.specs.Prelude.{ℕ, ◌+◌, Bool, true, false, cond, not, ◌&&◌, ◌||◌, ◌==◌, nat_le, List, [], ◌∷◌, drop, slice_index, Option, Some, None}
+use Rattle.std.specs.Prelude.{ℕ, ◌+◌, Bool, true, false, cond, not, ◌&&◌, ◌||◌, ◌==◌, nat_le, [], ◌∷◌, drop, slice_index, Option, Some, None}
 use Rattle.std.specs.List.{prefix_len}
 use Rattle.js_lex.specs.declared.units.Class.{Class}
 use Rattle.js_lex.specs.declared.units.Class.TheVariants as class

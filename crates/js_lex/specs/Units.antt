@@ -1,5 +1,5 @@
 -- Classes of UTF-16 units, and the numbers that digits stand for (ECMA-262, sections 12.2, 12.3, 12.7 and 12.9.3).
-use Rattle.std.specs.Prelude.{ℕ, ◌+◌, ◌-◌, ◌*◌, Bool, true, false, cond, not, ◌&&◌, ◌||◌, ◌==◌, nat_le, List, [], ◌∷◌, drop, Option, Some, None}
+use Rattle.std.specs.Prelude.{ℕ, ◌+◌, ◌-◌, ◌*◌, Bool, cond, not, ◌&&◌, ◌||◌, ◌==◌, nat_le, List, [], ◌∷◌}
 
 -- units, in order
 abbrev pub Text : Type 0

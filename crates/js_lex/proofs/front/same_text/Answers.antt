@@ -1,4 +1,4 @@
-use Rattle.std.proofs.Common.{sym, ◌∙◌, ap, rules}
+use Rattle.std.proofs.Common.{sym, ◌∙◌, ap}
 use Rattle.std.specs.Prelude.{Bool, ◌&&◌, ◌==◌, length}
 use Rattle.js_lex.proofs.Words.{same_told}
 use Rattle.js_lex.proofs.front.same_text.Goals as goal
