@@ -1,5 +1,5 @@
 -- What the code tells of the front of a text is what the grammar says, and nothing else.
-use Rattle.std.proofs.Common.{◌≡◌, ℕ, suc, ◌+◌, ◌-◌, Bool, true, false, cond, [], ◌∷◌, ◌++◌, take, length, Some, refl, sym, ◌∙◌, ap, subst, arith, ◌⊎◌, inl, inr}
+use Rattle.std.proofs.Common.{◌≡◌, ℕ, suc, ◌+◌, ◌≤◌, ◌-◌, ◌≤◌, ◌<◌, Bool, true, false, cond, List, [], ◌∷◌, ◌++◌, take, length, Option, Some, None, refl, sym, ◌∙◌, ap, subst, arith, ◌⊎◌, inl, inr}
 use Rattle.std.specs.Prelude.{◌==◌, ◌&&◌, ◌||◌, not, slice_index}
 use Rattle.std.proofs.lemmas.Bool.{eqb-true, eq-eqb}
 use Rattle.std.proofs.lemmas.List.{length-append}
@@ -14,26 +14,23 @@ use Rattle.js_lex.specs.Units.{Text, is_line_end, is_white, is_digit, is_name}
 use Rattle.js_lex.specs.Letters.{ending_units}
 use Rattle.js_lex.specs.Values.{part_of}
 use Rattle.js_lex.specs.Front as code
-use Rattle.js_lex.specs.Grammar.{In, Digits, some, Number, Decimal, Point, Big, Based, number_units, IsNumber, characters_units, characters_value, mark, string_quote, part_begin, ending_text, Element, White, LineEnd, LineComment, BlockComment, Word, Numeric, String, Part, Sign, units, Stands, IsLongest, Begins, Reading, Token, ReadsNumber, Reads, IsPiece}
+use Rattle.js_lex.specs.Grammar.{In, Digits, some, Number, Decimal, Point, Big, Based, number_units, IsNumber, IsInteger, number_value, ReadsValue, characters_units, characters_value, mark, string_quote, part_begin, ending_text, Element, White, LineEnd, LineComment, BlockComment, Word, Numeric, String, Part, Sign, units, Stands, IsLongest, Begins, Reading, Token, ReadsNumber, Reads, IsPiece}
 use Rattle.js_lex.proofs.Truths.{cond_yes, cond_no, and_first, and_second, not_yes, all_of, in_all}
 use Rattle.js_lex.proofs.Which.{Which, AtLineEnd, AtWhite, AtString, AtPart, AtNumber, AtName, AtPoint, AtSlash, AtSign, which, which_of, which_word, which_number, front_by, front_which, sort, sorted}
 use Rattle.js_lex.proofs.Runs.{take_here}
 use Rattle.js_lex.proofs.Longest.{FrontIs, front_for, sort_of, word_sort, number_sort, found_white, found_line_end}
 use Rattle.js_lex.proofs.Words.{found_word, word_only}
-use Rattle.js_lex.proofs.Signs.{no_truth, Row, IsSign, Fine, found_sign, same_sign}
+use Rattle.js_lex.proofs.Signs.{no_truth, no_point, no_points, Row, IsSign, Fine, found_sign, same_sign}
 use Rattle.js_lex.proofs.Separated.{first_digit}
+use Rattle.js_lex.proofs.Points.{found_point}
+use Rattle.js_lex.proofs.Numbers.{found_digits}
+use Rattle.js_lex.proofs.NumberValues.{same_value}
 use Rattle.js_lex.proofs.Literals.{found_string, string_only, found_part, part_only, end_size}
 use Rattle.js_lex.proofs.Comments.{slash_one, found_slash, line_only, block_only}
 
 abbrev pub front_at : Bool → Text → Front
 front_at h [] = front.Bad bad.Syntax
 front_at h (u ∷ z) = code.front_of h u z
-
--- what is still to be shown of numbers
-pub record NumberLaws : Type 0 where
-  pub sound : (h : Bool) (u : ℕ) (z : Text) → which h u z ≡ AtNumber → FrontIs h (u ∷ z) (code.number u z)
-  pub sound_point : (h : Bool) (z : Text) → which h 46 z ≡ AtPoint → is_digit (slice_index z 0) ≡ true → FrontIs h (46 ∷ z) (code.point z)
-  pub only : (h : Bool) (n : Number) (z : Text) (r : Reading) → IsNumber n → IsLongest h (Numeric n) z → ReadsNumber n z r → front_at h (number_units n ++ z) ≡ front_for r (length (number_units n))
 
 by_cond : {A : Type 0} (P : A → Type 0) (r : Bool) (x y : A) → (r ≡ true → P x) → (r ≡ false → P y) → P (cond r x y)
 by_cond P true x y f g = f refl
@@ -57,20 +54,20 @@ fine_sign h u z a b =
       brace = λ e. sym (ap (λ (r : Bool). r && h) (eq-eqb u 125 e)) ∙ b;
     }
 
-at_point_ : NumberLaws → (h : Bool) (u : ℕ) (z : Text) → u ≡ 46 → is_digit (slice_index z 0) ≡ true → which h u z ≡ AtPoint → FrontIs h (u ∷ z) (code.point z)
-at_point_ laws h u z e d k = subst (λ (v : ℕ). FrontIs h (v ∷ z) (code.point z)) (sym e) (laws.sound_point h z (subst (λ (v : ℕ). which h v z ≡ AtPoint) e k) d)
+at_point_ : (h : Bool) (u : ℕ) (z : Text) → u ≡ 46 → is_digit (slice_index z 0) ≡ true → which h u z ≡ AtPoint → FrontIs h (u ∷ z) (code.point z)
+at_point_ h u z e d k = subst (λ (v : ℕ). FrontIs h (v ∷ z) (code.point z)) (sym e) (found_point h z (subst (λ (v : ℕ). which h v z ≡ AtPoint) e k) d)
 
-pub front_sound : NumberLaws → (h : Bool) (u : ℕ) (z : Text) → FrontIs h (u ∷ z) (code.front_of h u z)
-front_sound laws h u z =
+pub front_sound : (h : Bool) (u : ℕ) (z : Text) → FrontIs h (u ∷ z) (code.front_of h u z)
+front_sound h u z =
     by_cond (FrontIs h (u ∷ z)) (is_line_end u) _ _ (λ y. inl (found_line_end h u z y)) (λ a.
     by_cond (FrontIs h (u ∷ z)) (is_white u) _ _ (λ y. inl (found_white h u z a y)) (λ b.
     by_cond (FrontIs h (u ∷ z)) (u == 34) _ _ (λ y. found_string h true u z (cond_no _ _ _ a ∙ cond_no _ _ _ b ∙ cond_yes _ _ _ y) (eqb-true u 34 y)) (λ c.
     by_cond (FrontIs h (u ∷ z)) (u == 39) _ _ (λ y. found_string h false u z (cond_no _ _ _ a ∙ cond_no _ _ _ b ∙ cond_no _ _ _ c ∙ cond_yes _ _ _ y) (eqb-true u 39 y)) (λ d.
     by_cond (FrontIs h (u ∷ z)) (u == 96) _ _ (λ y. found_part h true u z (cond_no _ _ _ a ∙ cond_no _ _ _ b ∙ cond_no _ _ _ c ∙ cond_no _ _ _ d ∙ cond_yes _ _ _ y) (eqb-true u 96 y) (inl refl)) (λ e.
     by_cond (FrontIs h (u ∷ z)) (u == 125 && h) _ _ (λ y. found_part h false u z (cond_no _ _ _ a ∙ cond_no _ _ _ b ∙ cond_no _ _ _ c ∙ cond_no _ _ _ d ∙ cond_no _ _ _ e ∙ cond_yes _ _ _ y) (eqb-true u 125 (and_first (u == 125) h y)) (inr (and_second (u == 125) h y))) (λ f.
-    by_cond (FrontIs h (u ∷ z)) (is_digit u) _ _ (λ y. laws.sound h u z (cond_no _ _ _ a ∙ cond_no _ _ _ b ∙ cond_no _ _ _ c ∙ cond_no _ _ _ d ∙ cond_no _ _ _ e ∙ cond_no _ _ _ f ∙ cond_yes _ _ _ y)) (λ g.
+    by_cond (FrontIs h (u ∷ z)) (is_digit u) _ _ (λ y. found_digits h u z (cond_no _ _ _ a ∙ cond_no _ _ _ b ∙ cond_no _ _ _ c ∙ cond_no _ _ _ d ∙ cond_no _ _ _ e ∙ cond_no _ _ _ f ∙ cond_yes _ _ _ y) y) (λ g.
     by_cond (FrontIs h (u ∷ z)) (is_name u) _ _ (λ y. inl (found_word h u z (cond_no _ _ _ a ∙ cond_no _ _ _ b ∙ cond_no _ _ _ c ∙ cond_no _ _ _ d ∙ cond_no _ _ _ e ∙ cond_no _ _ _ f ∙ cond_no _ _ _ g ∙ cond_yes _ _ _ y))) (λ i.
-    by_cond (FrontIs h (u ∷ z)) (u == 46 && is_digit (slice_index z 0)) _ _ (λ y. at_point_ laws h u z (eqb-true u 46 (and_first (u == 46) (is_digit (slice_index z 0)) y)) (and_second (u == 46) (is_digit (slice_index z 0)) y) (cond_no _ _ _ a ∙ cond_no _ _ _ b ∙ cond_no _ _ _ c ∙ cond_no _ _ _ d ∙ cond_no _ _ _ e ∙ cond_no _ _ _ f ∙ cond_no _ _ _ g ∙ cond_no _ _ _ i ∙ cond_yes _ _ _ y)) (λ j.
+    by_cond (FrontIs h (u ∷ z)) (u == 46 && is_digit (slice_index z 0)) _ _ (λ y. at_point_ h u z (eqb-true u 46 (and_first (u == 46) (is_digit (slice_index z 0)) y)) (and_second (u == 46) (is_digit (slice_index z 0)) y) (cond_no _ _ _ a ∙ cond_no _ _ _ b ∙ cond_no _ _ _ c ∙ cond_no _ _ _ d ∙ cond_no _ _ _ e ∙ cond_no _ _ _ f ∙ cond_no _ _ _ g ∙ cond_no _ _ _ i ∙ cond_yes _ _ _ y)) (λ j.
     by_cond (FrontIs h (u ∷ z)) (u == 47) _ _ (λ y. subst (λ (v : ℕ). FrontIs h (v ∷ z) (code.slash z)) (sym (eqb-true u 47 y)) (found_slash h z)) (λ k.
     found_sign h u z (fine_sign h u z k f) (λ x more s t. sign_at x more (sort_of h x more u z s t ∙ (cond_no _ _ _ a ∙ cond_no _ _ _ b ∙ cond_no _ _ _ c ∙ cond_no _ _ _ d ∙ cond_no _ _ _ e ∙ cond_no _ _ _ f ∙ cond_no _ _ _ g ∙ cond_no _ _ _ i ∙ cond_no _ _ _ j ∙ cond_no _ _ _ k)))))))))))))
 
@@ -85,13 +82,6 @@ same_units h t d e x y s l p b =
     let m = l e y b.stands k in
     let n = b.longest d x s (sym k) in
     same_front (units e) (units d) y x k (omega (arith, m, n))
-
-abbrev pub no_point : Text → Bool
-no_point (a ∷ b ∷ v) = not (a == 46 && is_digit b)
-no_point _ = true
-
-pub no_points : all_of (λ (r : Row). no_point r.0) punctuators ≡ true
-no_points = refl
 
 point_no_row : (w : Text) (p : Punctuator) (ds x : Text) → In (w, p) punctuators → Digits is_digit true ds → 46 ∷ (ds ++ x) ≡ w → ⊥
 point_no_row w p [] x i j e = no_truth j
@@ -177,9 +167,100 @@ sign_found h w p z x s l (inl f) =
 front_sort : (h : Bool) (u : ℕ) (z : Text) (k : Which) → which_of h (u ∷ z) ≡ Some k → code.front_of h u z ≡ front_by k u z
 front_sort h u z k e = (let same : which h u z ≡ k = cc in sym (front_which h u z) ∙ ap (λ (w : Which). front_by w u z) same)
 
-sign_only : NumberLaws → (h : Bool) (w : Text) (p : Punctuator) (z : Text) → Stands h (Sign w p) z → IsLongest h (Sign w p) z → front_at h (w ++ z) ≡ front_for (Token (tok.Punctuator p)) (length w)
-sign_only laws h [] p z s l = absurd (no_truth (sym (in_all (λ (r : Row). not (length r.0 == 0)) ([], p) punctuators s.0 refl)))
-sign_only laws h (u ∷ w) p z s l = sign_found h (u ∷ w) p z (code.front_of h u (w ++ z)) s l (front_sound laws h u (w ++ z))
+sign_only : (h : Bool) (w : Text) (p : Punctuator) (z : Text) → Stands h (Sign w p) z → IsLongest h (Sign w p) z → front_at h (w ++ z) ≡ front_for (Token (tok.Punctuator p)) (length w)
+sign_only h [] p z s l = absurd (no_truth (sym (in_all (λ (r : Row). not (length r.0 == 0)) ([], p) punctuators s.0 refl)))
+sign_only h (u ∷ w) p z s l = sign_found h (u ∷ w) p z (code.front_of h u (w ++ z)) s l (front_sound h u (w ++ z))
+
+-- ---- numbers
+
+integer_some : (ds x : Text) → IsInteger ds → 1 ≤ length (ds ++ x)
+integer_some [] x h = absurd h
+integer_some (d ∷ ds) x h = omega arith
+
+pub number_some : (n : Number) → IsNumber n → 1 ≤ length (number_units n)
+number_some (Decimal ds f e) h = integer_some ds _ h.0
+number_some (Point fs e) h = omega arith
+number_some (Big ds) h = integer_some ds _ h
+number_some (Based r m ds b) h = omega arith
+
+some_front : (v z : Text) → 1 ≤ length v → 1 ≤ length (v ++ z)
+some_front [] z k = absurd (omega (arith, k))
+some_front (u ∷ v) z k = omega arith
+
+number_front : (n : Number) (z : Text) → IsNumber n → 1 ≤ length (number_units n ++ z)
+number_front n z i = some_front (number_units n) z (number_some n i)
+
+record IsNumeric (f : Element) : Type 0 where
+  number : Number
+  same : f ≡ Numeric number
+
+numeric_at : (f : Element) (more : Text) → sort f more ≡ AtNumber → IsNumeric f
+numeric_at (Numeric n) more e = record { number = n; same = refl }
+numeric_at (Sign w p) more e = absurd (word_sort (λ (x : Which). x ≡ AtNumber → ⊥) (λ e. cc) (λ e. cc) (λ e. cc) w more e)
+numeric_at (White v) more e = cc
+numeric_at (LineEnd v) more e = cc
+numeric_at (LineComment w) more e = cc
+numeric_at (BlockComment w) more e = cc
+numeric_at (Word v w) more e = cc
+numeric_at (String d cs) more e = cc
+numeric_at (Part c cs x) more e = cc
+
+numeric_point : (h : Bool) (f : Element) (more : Text) (n : Number) → Stands h f more → IsNumber n → which_number n ≡ AtPoint → units f ≡ number_units n → sort f more ≡ AtPoint → IsNumeric f
+numeric_point h (Numeric m) more n s i k t e = record { number = m; same = refl }
+numeric_point h (Sign w p) more n s i k t e = absurd (number_no_row w p n s.0 i k (sym t))
+numeric_point h (White v) more n s i k t e = cc
+numeric_point h (LineEnd v) more n s i k t e = cc
+numeric_point h (LineComment w) more n s i k t e = cc
+numeric_point h (BlockComment w) more n s i k t e = cc
+numeric_point h (Word v w) more n s i k t e = cc
+numeric_point h (String d cs) more n s i k t e = cc
+numeric_point h (Part c cs x) more n s i k t e = cc
+
+numeric_by : (h : Bool) (f : Element) (more : Text) (n : Number) → Stands h f more → IsNumber n → units f ≡ number_units n → sort f more ≡ which_number n → IsNumeric f
+numeric_by h f more (Point fs x) s i t e = numeric_point h f more (Point fs x) s i refl t e
+numeric_by h f more (Decimal ds y x) s i t e = numeric_at f more e
+numeric_by h f more (Big ds) s i t e = numeric_at f more e
+numeric_by h f more (Based r m ds b) s i t e = numeric_at f more e
+
+read_value : (o : Option ℕ) (r s : Reading) → ReadsValue o r → ReadsValue o s → r ≡ s
+read_value None r s a b = a ∙ sym b
+read_value (Some v) r s (inl a) (inl b) = a.1 ∙ sym b.1
+read_value (Some v) r s (inl a) (inr b) = absurd (omega (arith, a.0, b.0))
+read_value (Some v) r s (inr a) (inl b) = absurd (omega (arith, a.0, b.0))
+read_value (Some v) r s (inr a) (inr b) = a.1 ∙ sym b.1
+
+read_number : (n m : Number) (z : Text) (r s : Reading) → number_value n ≡ number_value m → ReadsNumber n z r → ReadsNumber m z s → r ≡ s
+read_number n m z r s e (inl a) (inl b) = read_value (number_value m) r s (subst (λ (o : Option ℕ). ReadsValue o r) e a.1) b.1
+read_number n m z r s e (inl a) (inr b) = absurd (b.0 a.0)
+read_number n m z r s e (inr a) (inl b) = absurd (a.0 b.0)
+read_number n m z r s e (inr a) (inr b) = a.1 ∙ sym b.1
+
+by_numeric : (P : Element → Type 0) (f : Element) → IsNumeric f → ((n : Number) → P (Numeric n)) → P f
+by_numeric P f i g = subst P (sym i.same) (g i.number)
+
+read_numeric : (h : Bool) (n : Number) (f : Element) (z : Text) (r s : Reading) → IsNumeric f → Stands h f z → IsNumber n → units f ≡ number_units n → Reads f z s → ReadsNumber n z r → s ≡ r
+read_numeric h n f z r s i =
+    by_numeric (λ (y : Element). Stands h y z → IsNumber n → units y ≡ number_units n → Reads y z s → ReadsNumber n z r → s ≡ r) f i
+    (λ m j k e a b. read_number m n z s r (same_value m n j k e) a b)
+
+number_found : (h : Bool) (n : Number) (z : Text) (r : Reading) (x : Front) → IsNumber n → IsLongest h (Numeric n) z → ReadsNumber n z r → FrontIs h (number_units n ++ z) x → x ≡ front_for r (length (number_units n))
+number_found h n z r x i l d (inr f) = absurd (f.0 (Numeric n) z i refl)
+number_found h n z r x i l d (inl f) =
+    let same = same_units h (number_units n ++ z) (Numeric n) f.element z f.rest i l refl f.begins in
+    let rest : f.rest ≡ z = same_rest (number_units n) f.rest z (ap (λ (y : Text). y ++ f.rest) (sym same) ∙ sym f.begins.is_text) in
+    let stands : Stands h f.element z = subst (Stands h f.element) rest f.begins.stands in
+    let a : Some (sort f.element z) ≡ Some (which_number n) = sym (sorted h f.element z stands) ∙ ap (λ (y : Text). which_of h (y ++ z)) same ∙ sorted h (Numeric n) z i in
+    let b : sort f.element z ≡ which_number n = cc in
+    let numeric = numeric_by h f.element z n stands i same b in
+    let read = read_numeric h n f.element z r f.reading numeric stands i same (subst (λ (y : Text). Reads f.element y f.reading) rest f.reads) d in
+    f.is ∙ ap (λ (y : Reading). front_for y (length (units f.element))) read ∙ ap (λ (y : Text). front_for r (length y)) same
+
+front_is : (h : Bool) (t : Text) → 1 ≤ length t → FrontIs h t (front_at h t)
+front_is h [] k = absurd (omega (arith, k))
+front_is h (u ∷ z) k = front_sound h u z
+
+number_only : (h : Bool) (n : Number) (z : Text) (r : Reading) → IsNumber n → IsLongest h (Numeric n) z → ReadsNumber n z r → front_at h (number_units n ++ z) ≡ front_for r (length (number_units n))
+number_only h n z r i l d = number_found h n z r (front_at h (number_units n ++ z)) i l d (front_is h (number_units n ++ z) (number_front n z i))
 
 string_front : (d : Bool) (z : Text) → front_by (AtString d) (mark (string_quote d)) z ≡ code.string (string_quote d) z
 string_front true z = refl
@@ -189,23 +270,23 @@ less_one : (n : ℕ) → n ≡ suc n - 1
 less_one n = omega arith
 
 -- A piece is what the code tells.
-pub front_only : NumberLaws → (h : Bool) (e : Element) (z : Text) (r : Reading) → IsPiece h e z r → front_at h (units e ++ z) ≡ front_for r (length (units e))
-front_only laws h (White u) z r p = front_sort h u z AtWhite (sorted h (White u) z p.0) ∙ ap (λ (x : Reading). front_for x 1) (sym p.2)
-front_only laws h (LineEnd u) z r p = front_sort h u z AtLineEnd (sorted h (LineEnd u) z p.0) ∙ ap (λ (x : Reading). front_for x 1) (sym p.2)
-front_only laws h (LineComment w) z r p = line_only h w z p.0 p.1 ∙ ap (λ (n : ℕ). front.Gap n false) (omega arith) ∙ ap (λ (x : Reading). front_for x (2 + length w)) (sym p.2) ∙ ap (front_for r) (omega arith)
-front_only laws h (BlockComment w) z r p =
+pub front_only : (h : Bool) (e : Element) (z : Text) (r : Reading) → IsPiece h e z r → front_at h (units e ++ z) ≡ front_for r (length (units e))
+front_only h (White u) z r p = front_sort h u z AtWhite (sorted h (White u) z p.0) ∙ ap (λ (x : Reading). front_for x 1) (sym p.2)
+front_only h (LineEnd u) z r p = front_sort h u z AtLineEnd (sorted h (LineEnd u) z p.0) ∙ ap (λ (x : Reading). front_for x 1) (sym p.2)
+front_only h (LineComment w) z r p = line_only h w z p.0 p.1 ∙ ap (λ (n : ℕ). front.Gap n false) (omega arith) ∙ ap (λ (x : Reading). front_for x (2 + length w)) (sym p.2) ∙ ap (front_for r) (omega arith)
+front_only h (BlockComment w) z r p =
     let size : 2 + (length w + 2) ≡ length (units (BlockComment w)) = omega (arith, length-append w (42 ∷ 47 ∷ [])) in
     block_only w z p.0 ∙ ap (λ (n : ℕ). front.Gap n (some is_line_end w)) (omega arith) ∙ ap (λ (x : Reading). front_for x (2 + (length w + 2))) (sym p.2) ∙ ap (front_for r) size
-front_only laws h (Word u w) z r p = front_sort h u (w ++ z) AtName (sorted h (Word u w) z p.0) ∙ word_only h u w z r p.0 p.1 p.2 ∙ ap (front_for r) (omega arith)
-front_only laws h (Numeric n) z r p = laws.only h n z r p.0 p.1 p.2
-front_only laws h (String d cs) z r p =
+front_only h (Word u w) z r p = front_sort h u (w ++ z) AtName (sorted h (Word u w) z p.0) ∙ word_only h u w z r p.0 p.1 p.2 ∙ ap (front_for r) (omega arith)
+front_only h (Numeric n) z r p = number_only h n z r p.0 p.1 p.2
+front_only h (String d cs) z r p =
     let q = string_quote d in
     let size : suc (length (characters_units cs) + 1) ≡ length (units (String d cs)) = omega (arith, length-append (characters_units cs) (mark (string_quote d) ∷ [])) in
     front_sort h (mark (string_quote d)) ((characters_units cs ++ mark (string_quote d) ∷ []) ++ z) (AtString d) (sorted h (String d cs) z p.0)
     ∙ string_front d ((characters_units cs ++ mark (string_quote d) ∷ []) ++ z) ∙ string_only d cs z p.0
     ∙ ap (front.Token (tok.Text (characters_value cs))) (less_one (length (characters_units cs) + 1)) ∙ ap (λ (x : Reading). front_for x (suc (length (characters_units cs) + 1))) (sym p.2) ∙ ap (front_for r) size
-front_only laws h (Part b cs e) z r p =
+front_only h (Part b cs e) z r p =
     let size : suc (length (characters_units cs) + ending_units e) ≡ length (units (Part b cs e)) = omega (arith, length-append (characters_units cs) (ending_text quote.Template e), end_size quote.Template e (inr refl)) in
     front_sort h (part_begin b) ((characters_units cs ++ ending_text quote.Template e) ++ z) (AtPart b) (sorted h (Part b cs e) z p.0) ∙ part_only b cs e z p.0.1
     ∙ ap (front.Token (tok.Template (part_of b e) (characters_value cs))) (less_one (length (characters_units cs) + ending_units e)) ∙ ap (λ (x : Reading). front_for x (suc (length (characters_units cs) + ending_units e))) (sym p.2) ∙ ap (front_for r) size
-front_only laws h (Sign w x) z r p = sign_only laws h w x z p.0 p.1 ∙ ap (λ (y : Reading). front_for y (length w)) (sym p.2)
+front_only h (Sign w x) z r p = sign_only h w x z p.0 p.1 ∙ ap (λ (y : Reading). front_for y (length w)) (sym p.2)

@@ -20,19 +20,9 @@ use Rattle.js_lex.proofs.ScanLemmas.{from_drop}
 use Rattle.js_lex.proofs.Runs.{drop_here}
 use Rattle.js_lex.proofs.Longest.{FrontIs, front_for}
 use Rattle.js_lex.proofs.Signs.{no_truth, Row}
-use Rattle.js_lex.proofs.Fronts.{NumberLaws, front_at, front_sound, front_only}
+use Rattle.js_lex.proofs.Fronts.{number_some, front_at, front_sound, front_only}
 
 -- ---- no element is empty
-
-integer_some : (ds x : Text) → IsInteger ds → 1 ≤ length (ds ++ x)
-integer_some [] x h = absurd h
-integer_some (d ∷ ds) x h = omega arith
-
-number_some : (n : Number) → IsNumber n → 1 ≤ length (number_units n)
-number_some (Decimal ds f e) h = integer_some ds _ h.0
-number_some (Point fs e) h = omega arith
-number_some (Big ds) h = integer_some ds _ h
-number_some (Based r m ds b) h = omega arith
 
 row_some : (w : Text) (p : Punctuator) (h : Bool) (z : Text) → Stands h (Sign w p) z → 1 ≤ length w
 row_some [] p h z s = absurd (no_truth (sym (in_all (λ (r : Row). not (length r.0 == 0)) ([], p) punctuators s.0 refl)))
@@ -79,32 +69,32 @@ none_bad : (h : Bool) (t : Text) (f : Front) → BeginsNone h t → FrontIs h t 
 none_bad h t f n (inl x) = absurd (n x.element x.rest x.begins.stands x.begins.is_text)
 none_bad h t f n (inr x) = x.1
 
-none_at : NumberLaws → (h : Bool) (t : Text) → 1 ≤ length t → BeginsNone h t → front_at h t ≡ front.Bad bad.Syntax
-none_at laws h [] k n = absurd (omega (arith, k))
-none_at laws h (u ∷ z) k n = none_bad h (u ∷ z) (code.front_of h u z) n (front_sound laws h u z)
+none_at : (h : Bool) (t : Text) → 1 ≤ length t → BeginsNone h t → front_at h t ≡ front.Bad bad.Syntax
+none_at h [] k n = absurd (omega (arith, k))
+none_at h (u ∷ z) k n = none_bad h (u ∷ z) (code.front_of h u z) n (front_sound h u z)
 
 long_front : (v z : Text) → 1 ≤ length v → 1 ≤ length (v ++ z)
 long_front [] z k = absurd (omega (arith, k))
 long_front (u ∷ v) z k = omega arith
 
-last_only : NumberLaws → (bs : List Brace) (n : ℕ) (l : Bool) (tail : Text) (stop : Option Unread) → Stops (in_hole bs) tail stop → tokens_from 0 n l bs tail ≡ tokens n l [] stop
-last_only laws bs n l tail None h = ap (tokens_from 0 n l bs) h
-last_only laws bs n l tail (Some why) (inl h) = stopped bs n l tail why h.0 (none_at laws (in_hole bs) tail h.0 h.1 ∙ ap (λ (x : Unread). front.Bad x) (sym h.2))
-last_only laws bs n l tail (Some why) (inr h) =
+last_only : (bs : List Brace) (n : ℕ) (l : Bool) (tail : Text) (stop : Option Unread) → Stops (in_hole bs) tail stop → tokens_from 0 n l bs tail ≡ tokens n l [] stop
+last_only bs n l tail None h = ap (tokens_from 0 n l bs) h
+last_only bs n l tail (Some why) (inl h) = stopped bs n l tail why h.0 (none_at (in_hole bs) tail h.0 h.1 ∙ ap (λ (x : Unread). front.Bad x) (sym h.2))
+last_only bs n l tail (Some why) (inr h) =
     let some : 1 ≤ length tail = subst (λ (x : Text). 1 ≤ length x) (sym h.2) (long_front (units h.0) h.1 (some_units (in_hole bs) h.0 h.1 h.3.0)) in
-    stopped bs n l tail why some (ap (front_at (in_hole bs)) h.2 ∙ front_only laws (in_hole bs) h.0 h.1 (Refused why) h.3)
+    stopped bs n l tail why some (ap (front_at (in_hole bs)) h.2 ∙ front_only (in_hole bs) h.0 h.1 (Refused why) h.3)
 
-tokens_only : NumberLaws → (ps : List Piece) (bs : List Brace) (n : ℕ) (l : Bool) (tail : Text) (stop : Option Unread) → ArePieces bs ps tail → Stops (in_hole (open_braces bs ps)) tail stop → tokens_from 0 n l bs (text_of ps ++ tail) ≡ tokens n l ps stop
-tokens_only laws [] bs n l tail stop a s = last_only laws bs n l tail stop s
-tokens_only laws (p ∷ ps) bs n l tail stop a s =
+tokens_only : (ps : List Piece) (bs : List Brace) (n : ℕ) (l : Bool) (tail : Text) (stop : Option Unread) → ArePieces bs ps tail → Stops (in_hole (open_braces bs ps)) tail stop → tokens_from 0 n l bs (text_of ps ++ tail) ≡ tokens n l ps stop
+tokens_only [] bs n l tail stop a s = last_only bs n l tail stop s
+tokens_only (p ∷ ps) bs n l tail stop a s =
     let h = in_hole bs in
     let rest = text_of ps ++ tail in
     ap (tokens_from 0 n l bs) (append_assoc (units p.element) (text_of ps) tail)
-    ∙ one_piece bs n l (units p.element) (text_of ps ++ tail) p.reading (some_units (in_hole bs) p.element (text_of ps ++ tail) a.0.0) (front_only laws (in_hole bs) p.element (text_of ps ++ tail) p.reading a.0) a.1
-    ∙ ap (λ (ts : List Placed). piece_tokens n l p.reading ++ ts) (tokens_only laws ps (braces_behind p.reading bs) (n + length (units p.element)) (line_ends l p.reading) tail stop a.2 s)
+    ∙ one_piece bs n l (units p.element) (text_of ps ++ tail) p.reading (some_units (in_hole bs) p.element (text_of ps ++ tail) a.0.0) (front_only (in_hole bs) p.element (text_of ps ++ tail) p.reading a.0) a.1
+    ∙ ap (λ (ts : List Placed). piece_tokens n l p.reading ++ ts) (tokens_only ps (braces_behind p.reading bs) (n + length (units p.element)) (line_ends l p.reading) tail stop a.2 s)
 
-pub are_only : NumberLaws → (text : Text) (ts : List Placed) → AreTokens text ts → tokens_of text ≡ ts
-are_only laws text ts a = ap (tokens_from 0 0 false []) a.is_text ∙ tokens_only laws a.pieces [] 0 false a.tail a.stop a.are a.stops ∙ sym a.found
+pub are_only : (text : Text) (ts : List Placed) → AreTokens text ts → tokens_of text ≡ ts
+are_only text ts a = ap (tokens_from 0 0 false []) a.is_text ∙ tokens_only a.pieces [] 0 false a.tail a.stop a.are a.stops ∙ sym a.found
 
 -- ---- they are such
 
@@ -157,13 +147,13 @@ told_front : (bs : List Brace) (n : ℕ) (l : Bool) (u : ℕ) (z : Text) → Fro
 told_front bs n l u z (inl f) i = told_found bs n l u z f.element f.rest f.reading f.begins f.reads f.is i
 told_front bs n l u z (inr f) i = told_stop bs n l (u ∷ z) bad.Syntax (omega arith) f.1 (inl (omega arith, f.0, refl))
 
-told : NumberLaws → (z : Text) (k n : ℕ) (l : Bool) (bs : List Brace) → Told bs n l (drop k z) (tokens_from 0 n l bs (drop k z))
-told laws [] zero n l bs = told_end bs n l
-told laws [] (suc k) n l bs = told_end bs n l
-told laws (u ∷ z) (suc k) n l bs = told laws z k n l bs
-told laws (u ∷ z) zero n l bs = told_front bs n l u z (front_sound laws (in_hole bs) u z) (λ k m b cs. told laws z k m b cs)
+told : (z : Text) (k n : ℕ) (l : Bool) (bs : List Brace) → Told bs n l (drop k z) (tokens_from 0 n l bs (drop k z))
+told [] zero n l bs = told_end bs n l
+told [] (suc k) n l bs = told_end bs n l
+told (u ∷ z) (suc k) n l bs = told z k n l bs
+told (u ∷ z) zero n l bs = told_front bs n l u z (front_sound (in_hole bs) u z) (λ k m b cs. told z k m b cs)
 
-pub are_tokens : NumberLaws → (text : Text) → AreTokens text (tokens_of text)
-are_tokens laws text =
-    let t = told laws text 0 0 false [] in
+pub are_tokens : (text : Text) → AreTokens text (tokens_of text)
+are_tokens text =
+    let t = told text 0 0 false [] in
     record { pieces = t.pieces; tail = t.tail; stop = t.stop; is_text = t.is_text; are = t.are; stops = t.stops; found = t.found }

@@ -19,3 +19,4 @@ pub mod Points
 pub mod Tails
 pub mod Decimals
 pub mod NumberValues
+pub mod Numbers

@@ -24,7 +24,7 @@ clear_radix Binary = (refl, refl)
 
 -- ---- the letters of bases
 
-by_mark : (P : ℕ → Type 0) (a b m : ℕ) → (m == a || m == b) ≡ true → P a → P b → P m
+pub by_mark : (P : ℕ → Type 0) (a b m : ℕ) → (m == a || m == b) ≡ true → P a → P b → P m
 by_mark P a b m h x y = elim (or_split (m == a) (m == b) h) [
   | inl e ↦ subst P (sym (eqb-true m a e)) x
   | inr e ↦ subst P (sym (eqb-true m b e)) y
@@ -132,12 +132,12 @@ none_told ds w i a k = sym (cond_no _ _ _ (all_behind is_digit ds w a) ∙ integ
 letter_told : (P : ℕ → Type 0) (e : ℕ) → (e == 101 || e == 69) ≡ true → P 101 → P 69 → P e
 letter_told P e h x y = by_mark P 101 69 e h x y
 
-base_of : (r : Radix) → base (class_of r) ≡ radix_value r
+pub base_of : (r : Radix) → base (class_of r) ≡ radix_value r
 base_of Hex = refl
 base_of Octal = refl
 base_of Binary = refl
 
-no_suffix : (r : Radix) → is_digit_of r 110 ≡ false
+pub no_suffix : (r : Radix) → is_digit_of r 110 ≡ false
 no_suffix Hex = refl
 no_suffix Octal = refl
 no_suffix Binary = refl

@@ -17,15 +17,14 @@ use Rattle.js_lex.proofs.Which.{AtPoint, which, sort}
 use Rattle.js_lex.proofs.Runs.{both_parts, drop_here}
 use Rattle.js_lex.proofs.Separated.{Ends, clear_digit, must_of, digits_pass, some_len, some_least, some_exact, some_length, other_ends}
 use Rattle.js_lex.proofs.Longest.{FrontIs, sort_of, front_for}
-use Rattle.js_lex.proofs.Signs.{no_truth, Row}
-use Rattle.js_lex.proofs.Fronts.{no_point, no_points}
+use Rattle.js_lex.proofs.Signs.{no_truth, Row, no_point, no_points}
 use Rattle.js_lex.proofs.Exponents.{exponent_behind, exponent_bound, exponents}
 
-not_next : (f : ℕ → Bool) (z : Text) → f 0 ≡ false → NotNext f z → f (slice_index z 0) ≡ false
+pub not_next : (f : ℕ → Bool) (z : Text) → f 0 ≡ false → NotNext f z → f (slice_index z 0) ≡ false
 not_next f [] a h = a
 not_next f (u ∷ z) a h = h
 
-head_next : (f : ℕ → Bool) (z : Text) → f (slice_index z 0) ≡ false → NotNext f z
+pub head_next : (f : ℕ → Bool) (z : Text) → f (slice_index z 0) ≡ false → NotNext f z
 head_next f [] h = tt
 head_next f (u ∷ z) h = h
 

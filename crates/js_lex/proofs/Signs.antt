@@ -257,3 +257,11 @@ found_sign h u z fine only = elim (either (is_chain u z)) [
   | inl c ↦ inl (chain_sign h u z c only)
   | inr n ↦ plain_sign h u z n fine only (tells punctuators u z all_ordered)
 ]
+
+-- `.` before a digit begins no punctuator
+abbrev pub no_point : Text → Bool
+no_point (a ∷ b ∷ v) = not (a == 46 && is_digit b)
+no_point _ = true
+
+pub no_points : all_of (λ (r : Row). no_point r.0) punctuators ≡ true
+no_points = refl

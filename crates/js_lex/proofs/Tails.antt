@@ -32,7 +32,7 @@ extent_point y =
     ap (past_exponent (46 ∷ y)) start ∙ ap (λ (x : Text). past_exponent x (length (46 ∷ take (some_len is_digit y) y))) text
     ∙ exponent_behind (46 ∷ take (some_len is_digit y) y) (drop (some_len is_digit y) y) ∙ omega (arith, some_length is_digit y)
 
-extent_none : (y : Text) → (slice_index y 0 == 46) ≡ false → extent y ≡ past_exponent y 0
+pub extent_none : (y : Text) → (slice_index y 0 == 46) ≡ false → extent y ≡ past_exponent y 0
 extent_none y h = ap (past_exponent y) (cond_no _ _ _ h)
 
 pub record Tails (y : Text) : Type 0 where

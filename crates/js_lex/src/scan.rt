@@ -1,6 +1,7 @@
-ghost use Rattle.std.specs.Prelude.{◌≡◌, ◌≤◌, ◌<◌, ◌+◌, [], ◌∷◌, ◌++◌, ◌^◌, drop, length, IfOk};
+ghost use Rattle.std.specs.Prelude.{◌≡◌, ◌≤◌, ◌<◌, ◌+◌, [], ◌∷◌, ◌++◌, ◌^◌, drop, length, List, IfOk};
 ghost use Rattle.js_lex.specs.Places as spec;
 ghost use Rattle.js_lex.specs.Front.{more_units};
+ghost use Rattle.js_lex.specs.Grammar.{AreTokens};
 ghost use Rattle.js_lex.specs.Scan.{taken, tokens_of};
 
 use crate::front::{Front, Unread, front_of, more_units};
@@ -170,10 +171,13 @@ fn scan(alloc: Global, mut text: &[u16]) -> Result<Tokens, NoMemory>
     )
 }
 
-/// The tokens of a script: the longest one at each place, up to `End`, or up to `Bad` at the first
-/// place where none can be read. `docs/SCRIPTS.md` has the grammar. `Err` is want of memory.
+/// The tokens of a script, after ECMA-262, section 12: the longest one at each place, up to `End`,
+/// or up to `Bad` at the first place where none can be read. Places count UTF-16 units.
+/// `docs/SCRIPTS.md` has the grammar. `Err` is want of memory.
+#[tactic(auto, using(crate::proofs::LexLaws::are_tokens, crate::proofs::LexLaws::are_only))]
 pub fn lex(alloc: Global, units: &Units) -> Result<Tokens, NoMemory>
-    ensures { IfOk result (λ tokens. tokens ≡ tokens_of units.now) }
+    ensures found { IfOk result (λ tokens. AreTokens units.now tokens) }
+    ensures only { (tokens : List Token) → AreTokens units.now tokens → IfOk result (λ found. found ≡ tokens) }
 {
     scan(alloc, units.as_slice())
 }
