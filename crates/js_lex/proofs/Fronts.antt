@@ -1,5 +1,5 @@
 -- What the code tells of the front of a text is what the grammar says, and nothing else.
-use Rattle.std.proofs.Common.{◌≡◌, ℕ, suc, ◌+◌, ◌≤◌, ◌-◌, ◌≤◌, ◌<◌, Bool, true, false, cond, List, [], ◌∷◌, ◌++◌, take, length, Option, Some, None, refl, sym, ◌∙◌, ap, subst, arith, ◌⊎◌, inl, inr}
+use Rattle.std.proofs.Common.{◌≡◌, ℕ, suc, ◌+◌, ◌≤◌, ◌-◌, ◌≤◌, Bool, true, false, cond, [], ◌∷◌, ◌++◌, take, length, Option, Some, None, refl, sym, ◌∙◌, ap, subst, arith, ◌⊎◌, inl, inr}
 use Rattle.std.specs.Prelude.{◌==◌, ◌&&◌, ◌||◌, not, slice_index}
 use Rattle.std.proofs.lemmas.Bool.{eqb-true, eq-eqb}
 use Rattle.std.proofs.lemmas.List.{length-append}
@@ -15,7 +15,7 @@ use Rattle.js_lex.specs.Letters.{ending_units}
 use Rattle.js_lex.specs.Values.{part_of}
 use Rattle.js_lex.specs.Front as code
 use Rattle.js_lex.specs.Grammar.{In, Digits, some, Number, Decimal, Point, Big, Based, number_units, IsNumber, IsInteger, number_value, ReadsValue, characters_units, characters_value, mark, string_quote, part_begin, ending_text, Element, White, LineEnd, LineComment, BlockComment, Word, Numeric, String, Part, Sign, units, Stands, IsLongest, Begins, Reading, Token, ReadsNumber, Reads, IsPiece}
-use Rattle.js_lex.proofs.Truths.{cond_yes, cond_no, and_first, and_second, not_yes, all_of, in_all}
+use Rattle.js_lex.proofs.Truths.{cond_yes, cond_no, and_first, and_second, not_yes, in_all}
 use Rattle.js_lex.proofs.Which.{Which, AtLineEnd, AtWhite, AtString, AtPart, AtNumber, AtName, AtPoint, AtSlash, AtSign, which, which_of, which_word, which_number, front_by, front_which, sort, sorted}
 use Rattle.js_lex.proofs.Runs.{take_here}
 use Rattle.js_lex.proofs.Longest.{FrontIs, front_for, sort_of, word_sort, number_sort, found_white, found_line_end}

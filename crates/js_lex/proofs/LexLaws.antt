@@ -1,6 +1,6 @@
 -- The tokens of a text are those of the grammar, and no others.
 use Rattle.std.proofs.Common.{◌≡◌, ℕ, zero, suc, ◌+◌, ◌-◌, ◌≤◌, Bool, false, List, [], ◌∷◌, ◌++◌, drop, length, Option, Some, None, refl, sym, ◌∙◌, ap, subst, arith, append_assoc, inl, inr}
-use Rattle.std.specs.Prelude.{◌||◌, ◌==◌, not}
+use Rattle.std.specs.Prelude.{◌||◌, ◌==◌, not, Result, Ok, Err, IfOk}
 use Rattle.js_lex.specs.declared.token.TokenKind.TheVariants as tok
 use Rattle.js_lex.specs.declared.token.Token.{Token as Placed}
 use Rattle.js_lex.specs.declared.token.Punctuator.{Punctuator}
@@ -14,7 +14,7 @@ use Rattle.js_lex.specs.Units.{Text}
 use Rattle.js_lex.specs.Places.{in_hole, token}
 use Rattle.js_lex.specs.Scan.{put, tokens_from, tokens_of}
 use Rattle.js_lex.specs.Front as code
-use Rattle.js_lex.specs.Grammar.{IsInteger, IsNumber, Number, Decimal, Point, Big, Based, number_units, Element, White, LineEnd, LineComment, BlockComment, Word, Numeric, String, Part, Sign, units, Stands, Begins, BeginsNone, Reading, Gap, Token, Refused, Reads, Piece, text_of, IsRead, braces_behind, open_braces, IsPiece, ArePieces, Stops, piece_tokens, line_ends, tokens, AreTokens}
+use Rattle.js_lex.specs.Grammar.{Element, White, LineEnd, LineComment, BlockComment, Word, Numeric, String, Part, Sign, units, Stands, Begins, BeginsNone, Reading, Gap, Token, Refused, Reads, Piece, text_of, IsRead, braces_behind, open_braces, IsPiece, ArePieces, Stops, piece_tokens, line_ends, tokens, AreTokens}
 use Rattle.js_lex.proofs.Truths.{in_all}
 use Rattle.js_lex.proofs.ScanLemmas.{from_drop}
 use Rattle.js_lex.proofs.Runs.{drop_here}
@@ -157,3 +157,9 @@ pub are_tokens : (text : Text) → AreTokens text (tokens_of text)
 are_tokens text =
     let t = told text 0 0 false [] in
     record { pieces = t.pieces; tail = t.tail; stop = t.stop; is_text = t.is_text; are = t.are; stops = t.stops; found = t.found }
+
+-- ---- an answer
+
+pub only_answer : {E : Type 0} → (text : Text) (ts : List Placed) (r : Result (List Placed) E) → IfOk r (λ found. found ≡ tokens_of text) → AreTokens text ts → IfOk r (λ found. found ≡ ts)
+only_answer text ts (Ok found) h a = h ∙ are_only text ts a
+only_answer text ts (Err e) h a = tt

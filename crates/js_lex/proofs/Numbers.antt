@@ -1,7 +1,7 @@
 -- Numbers that begin with a digit.
-use Rattle.std.proofs.Common.{◌≡◌, ℕ, zero, suc, ◌+◌, ◌*◌, ◌-◌, ◌≤◌, ◌<◌, Bool, true, false, cond, [], ◌∷◌, ◌++◌, take, drop, length, Option, Some, None, refl, sym, ◌∙◌, ap, subst, arith, append_assoc, ◌⊎◌, inl, inr}
+use Rattle.std.proofs.Common.{◌≡◌, ℕ, zero, suc, ◌+◌, ◌*◌, ◌-◌, ◌≤◌, Bool, true, false, cond, [], ◌∷◌, ◌++◌, take, drop, length, Option, Some, None, refl, sym, ◌∙◌, ap, subst, arith, append_assoc, ◌⊎◌, inl, inr}
 use Rattle.std.specs.Prelude.{◌==◌, ◌&&◌, ◌||◌, nat_le, slice_index}
-use Rattle.std.proofs.lemmas.Bool.{eqb-true, eq-eqb, leb-true, leb-false, eqb-false}
+use Rattle.std.proofs.lemmas.Bool.{eqb-true, eq-eqb, leb-true, leb-false}
 use Rattle.std.proofs.lemmas.List.{length-append}
 use Rattle.js_lex.specs.declared.token.TokenKind.TheVariants as tok
 use Rattle.js_lex.specs.declared.units.Class.{Class}
@@ -16,8 +16,8 @@ use Rattle.js_lex.specs.Front as code
 use Rattle.js_lex.specs.Grammar.{is, some, Digits, IsInteger, Radix, Hex, Octal, Binary, radix_value, is_mark, is_digit_of, Exponent, NoExponent, Exponential, exponent_units, IsExponent, Fraction, NoFraction, Fractional, fraction_units, IsFraction, Number, Decimal, Point, Big, Based, suffix, number_units, IsNumber, Element, White, LineEnd, LineComment, BlockComment, Word, Numeric, String, Part, Sign, units, Stands, Reading, Token, Refused, digits_value, number_value, ReadsValue, ReadsNumber}
 use Rattle.js_lex.proofs.Truths.{cond_yes, cond_no, either, or_no, or_first, or_second, apart, and_first, and_second, and_no_first, and_no_second, digit_name}
 use Rattle.js_lex.proofs.Which.{Which, AtNumber, which, which_number, sort}
-use Rattle.js_lex.proofs.Runs.{both_parts, drop_here, take_length, one_behind}
-use Rattle.js_lex.proofs.Longest.{AtMost, Found, FrontIs, front_for, sort_of, word_sort}
+use Rattle.js_lex.proofs.Runs.{both_parts, drop_here, one_behind}
+use Rattle.js_lex.proofs.Longest.{FrontIs, front_for, sort_of, word_sort}
 use Rattle.js_lex.proofs.Signs.{no_truth}
 use Rattle.js_lex.proofs.Separated.{Ends, clear_digit, digits_pass, digits_least, digits_none, digits_exact, digits_length, must_of, other_ends, first_digit}
 use Rattle.js_lex.proofs.Points.{index_at, not_next, head_next}
