@@ -1,5 +1,5 @@
 -- The tokens of a text are those of the grammar, and no others.
-use Rattle.std.proofs.Common.{◌≡◌, ℕ, zero, suc, ◌+◌, ◌-◌, ◌≤◌, Bool, false, List, [], ◌∷◌, ◌++◌, drop, length, Option, Some, None, refl, sym, ◌∙◌, ap, subst, arith, append_assoc, inl, inr}
+use Rattle.std.proofs.Common.{◌≡◌, ℕ, zero, suc, ◌+◌, ◌-◌, ◌≤◌, ◌<◌, Bool, false, List, [], ◌∷◌, ◌++◌, drop, length, Option, Some, None, refl, sym, ◌∙◌, ap, subst, arith, append_assoc, inl, inr}
 use Rattle.std.specs.Prelude.{◌||◌, ◌==◌, not, Result, Ok, Err, IfOk}
 use Rattle.js_lex.specs.declared.token.TokenKind.TheVariants as tok
 use Rattle.js_lex.specs.declared.token.Token.{Token as Placed}
@@ -12,11 +12,12 @@ use Rattle.js_lex.specs.declared.front.Unread.TheVariants as bad
 use Rattle.js_lex.specs.Tables.{punctuators}
 use Rattle.js_lex.specs.Units.{Text}
 use Rattle.js_lex.specs.Places.{in_hole, token}
-use Rattle.js_lex.specs.Scan.{put, tokens_from, tokens_of}
+use Rattle.js_lex.proofs.Whole.{put, tokens_from, tokens_of}
 use Rattle.js_lex.specs.Front as code
 use Rattle.js_lex.specs.Grammar.{Element, White, LineEnd, LineComment, BlockComment, Word, Numeric, String, Part, Sign, units, Stands, Begins, BeginsNone, Reading, Gap, Token, Refused, Reads, Piece, text_of, IsRead, braces_behind, open_braces, IsPiece, ArePieces, Stops, piece_tokens, line_ends, tokens, AreTokens}
 use Rattle.js_lex.proofs.Truths.{in_all}
-use Rattle.js_lex.proofs.ScanLemmas.{from_drop}
+use Rattle.js_lex.proofs.ScanLemmas.{from_drop, whole}
+use Rattle.js_lex.specs.declared.scan.State.{State}
 use Rattle.js_lex.proofs.Runs.{drop_here}
 use Rattle.js_lex.proofs.Longest.{FrontIs, front_for}
 use Rattle.js_lex.proofs.Signs.{no_truth, Row}
@@ -158,8 +159,24 @@ are_tokens text =
     let t = told text 0 0 false [] in
     record { pieces = t.pieces; tail = t.tail; stop = t.stop; is_text = t.is_text; are = t.are; stops = t.stops; found = t.found }
 
--- ---- an answer
+-- ---- answers
 
-pub only_answer : {E : Type 0} → (text : Text) (ts : List Placed) (r : Result (List Placed) E) → IfOk r (λ found. found ≡ tokens_of text) → AreTokens text ts → IfOk r (λ found. found ≡ ts)
-only_answer text ts (Ok found) h a = h ∙ are_only text ts a
-only_answer text ts (Err e) h a = tt
+pub found_is : (text : Text) (ts : List Placed) → ts ≡ tokens_of text → AreTokens text ts
+found_is text ts e = subst (λ (us : List Placed). AreTokens text us) (sym e) (are_tokens text)
+
+pub only_is : (text : Text) (ts us : List Placed) → ts ≡ tokens_of text → AreTokens text us → ts ≡ us
+only_is text ts us e a = e ∙ are_only text us a
+
+-- at the text's end
+pub end_ok : {E : Type 0} → (s : State) (z text : Text) (r : Result (List Placed) E) → length z < 1 → whole s 0 z ≡ tokens_of text → IfOk r (λ found. found ≡ s.tokens ++ token s.place s.after_line_end tok.End ∷ []) → IfOk r (λ found. found ≡ tokens_of text)
+end_ok s [] text (Ok found) k e h = h ∙ e
+end_ok s [] text (Err x) k e h = tt
+end_ok s (u ∷ z) text r k e h = absurd (omega (arith, k))
+
+pub found_ok : {E : Type 0} → (text : Text) (r : Result (List Placed) E) → IfOk r (λ found. found ≡ tokens_of text) → IfOk r (λ found. AreTokens text found)
+found_ok text (Ok found) h = found_is text found h
+found_ok text (Err e) h = tt
+
+pub only_ok : {E : Type 0} → (text : Text) (ts : List Placed) (r : Result (List Placed) E) → IfOk r (λ found. found ≡ tokens_of text) → AreTokens text ts → IfOk r (λ found. found ≡ ts)
+only_ok text ts (Ok found) h a = only_is text found ts h a
+only_ok text ts (Err e) h a = tt

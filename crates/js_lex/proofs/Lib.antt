@@ -1,3 +1,4 @@
+pub mod Whole
 pub mod Back
 pub mod UnitLemmas
 pub mod LetterLemmas

@@ -11,7 +11,8 @@ use Rattle.js_lex.specs.declared.front.Front.TheVariants as front
 use Rattle.js_lex.specs.Units.{Text}
 use Rattle.js_lex.specs.Places.{in_hole, braces, token}
 use Rattle.js_lex.specs.Front.{front_of, more_units}
-use Rattle.js_lex.specs.Scan.{put, tokens_from, taken}
+use Rattle.js_lex.specs.Scan.{taken}
+use Rattle.js_lex.proofs.Whole.{put, tokens_from}
 
 pub from_drop : (k n : ℕ) (l : Bool) (bs : List Brace) (z : Text) → tokens_from k n l bs z ≡ tokens_from 0 n l bs (drop k z)
 from_drop zero n l bs z = refl

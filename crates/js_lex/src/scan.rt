@@ -2,7 +2,7 @@ ghost use Rattle.std.specs.Prelude.{◌≡◌, ◌≤◌, ◌<◌, ◌+◌, [], 
 ghost use Rattle.js_lex.specs.Places as spec;
 ghost use Rattle.js_lex.specs.Front.{more_units};
 ghost use Rattle.js_lex.specs.Grammar.{AreTokens};
-ghost use Rattle.js_lex.specs.Scan.{taken, tokens_of};
+ghost use Rattle.js_lex.specs.Scan.{taken};
 
 use crate::front::{Front, Unread, front_of, more_units};
 use crate::stack::Stack;
@@ -144,7 +144,8 @@ fn take(alloc: Global, state: State, front: Front) -> Result<Step, NoMemory>
 }
 
 fn scan(alloc: Global, mut text: &[u16]) -> Result<Tokens, NoMemory>
-    ensures { IfOk result (λ tokens. tokens ≡ tokens_of text.entry.now) }
+    ensures found { IfOk result (λ tokens. AreTokens text.entry.now tokens) }
+    ensures only { (tokens : List Token) → AreTokens text.entry.now tokens → IfOk result (λ found. found ≡ tokens) }
 {
     let mut state = State {
         tokens: Seq::new(alloc),
@@ -174,7 +175,6 @@ fn scan(alloc: Global, mut text: &[u16]) -> Result<Tokens, NoMemory>
 /// The tokens of a script, after ECMA-262, section 12: the longest one at each place, up to `End`,
 /// or up to `Bad` at the first place where none can be read. Places count UTF-16 units.
 /// `docs/SCRIPTS.md` has the grammar. `Err` is want of memory.
-#[tactic(auto, using(crate::proofs::LexLaws::are_tokens, crate::proofs::LexLaws::are_only))]
 pub fn lex(alloc: Global, units: &Units) -> Result<Tokens, NoMemory>
     ensures found { IfOk result (λ tokens. AreTokens units.now tokens) }
     ensures only { (tokens : List Token) → AreTokens units.now tokens → IfOk result (λ found. found ≡ tokens) }

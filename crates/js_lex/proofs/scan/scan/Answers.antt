@@ -4,7 +4,9 @@ use Rattle.std.proofs.lemmas.List.{take_rest, length-drop}
 use Rattle.js_lex.specs.declared.scan.Step.TheVariants as step
 use Rattle.js_lex.specs.Places.{in_hole}
 use Rattle.js_lex.specs.Front.{front_of, more_units}
-use Rattle.js_lex.specs.Scan.{tokens_of, taken}
+use Rattle.js_lex.specs.Scan.{taken}
+use Rattle.js_lex.proofs.Whole.{tokens_of}
+use Rattle.js_lex.proofs.LexLaws.{found_is, only_is, found_ok, only_ok, end_ok}
 use Rattle.js_lex.proofs.ScanLemmas.{goes, goes_place, stops}
 use Rattle.js_lex.proofs.scan.scan.Goals as goal
 
@@ -30,4 +32,13 @@ returns-in-Stop c =
     let z = c.loop-text.text.now in
     let e : f ≡ front_of (in_hole s.braces) (slice_index z 0) (drop 1 z) = c.in_ok-front.ensures.value ∙ ap (λ (b : Bool). front_of b (slice_index z 0) (take (length z - 1) (drop 1 z))) c.in_hole.ensures ∙ ap (front_of (in_hole s.braces) (slice_index z 0)) (take_rest z 1) in
     let h : taken s f ≡ step.Stop c.in-Stop.tokens = sym c.in_ok-next.ensures ∙ c.in-Stop.is in
-    stops s c.in-Stop.tokens f z (tokens_of c.args.text.now) c.in-len1-up.len_at_least e h c.loop-text.invariant.0
+    let is = stops s c.in-Stop.tokens f z (tokens_of c.args.text.now) c.in-len1-up.len_at_least e h c.loop-text.invariant.0 in
+    record { found = found_is c.args.text.now c.in-Stop.tokens is; only = λ us a. only_is c.args.text.now c.in-Stop.tokens us is a }
+
+pub returns-clause-found : goal.returns-clause-found
+returns-clause-found c =
+    found_ok c.args.text.now c.with_token.result (end_ok c.loop-text.state c.loop-text.text.now c.args.text.now c.with_token.result c.in_default.len_below c.loop-text.invariant.0 c.with_token.ensures)
+
+pub returns-clause-only : goal.returns-clause-only
+returns-clause-only c =
+    λ ts a. only_ok c.args.text.now ts c.with_token.result (end_ok c.loop-text.state c.loop-text.text.now c.args.text.now c.with_token.result c.in_default.len_below c.loop-text.invariant.0 c.with_token.ensures) a

@@ -1,5 +1,5 @@
 use Rattle.std.proofs.Common.{◌≡◌, ◌+◌, ◌++◌, length}
-use Rattle.js_lex.specs.Scan.{tokens_from, tokens_of}
+use Rattle.js_lex.proofs.Whole.{tokens_from, tokens_of}
 use Rattle.js_lex.proofs.scan.scan.Given as goal
 
 abbrev pub invariant-loop-text : goal.invariant-loop-text
