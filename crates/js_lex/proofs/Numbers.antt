@@ -389,9 +389,9 @@ literal_found : (h : Bool) (u : ℕ) (z : Text) → which h u z ≡ AtNumber →
 literal_found h u z w d r n =
     by_cond (FrontIs h (u ∷ z)) (count z + extent (behind z) == count z) _ _
     (λ e. let x : extent (behind z) ≡ 0 = omega (arith, eqb-true (count z + extent (behind z)) (count z) e) in
-        by_cond (FrontIs h (u ∷ z)) (slice_index z (count z) == 110) _ _
-        (λ y. digits_big h u z w d r n x (ap (λ (c : ℕ). c == 110) (sym (index_behind z)) ∙ y))
-        (λ y. digits_plain h u z w d r n x (ap (λ (c : ℕ). c == 110) (sym (index_behind z)) ∙ y)))
+    by_cond (FrontIs h (u ∷ z)) (slice_index z (count z) == 110) _ _
+    (λ y. digits_big h u z w d r n x (ap (λ (c : ℕ). c == 110) (sym (index_behind z)) ∙ y))
+    (λ y. digits_plain h u z w d r n x (ap (λ (c : ℕ). c == 110) (sym (index_behind z)) ∙ y)))
     (λ e. digits_longer h u z w d r n (some_extent (count z) (extent (behind z)) e))
 
 none_on : (z : Text) → legacy (slice_index z 0) ≡ false → count z ≡ 0
@@ -405,7 +405,7 @@ decimal_found : (h : Bool) (u : ℕ) (z : Text) → which h u z ≡ AtNumber →
 decimal_found h u z w d n =
     by_cond (FrontIs h (u ∷ z)) (code.is_legacy u z) _ _
     (λ e. let q = eqb-true u 48 (and_first (u == 48) (legacy (slice_index z 0)) e) in
-        subst (λ (v : ℕ). FrontIs h (v ∷ z) (front.Bad bad.Syntax)) (sym q) (found_legacy h z (subst (λ (v : ℕ). which h v z ≡ AtNumber) q w) (and_second (u == 48) (legacy (slice_index z 0)) e)))
+    subst (λ (v : ℕ). FrontIs h (v ∷ z) (front.Bad bad.Syntax)) (sym q) (found_legacy h z (subst (λ (v : ℕ). which h v z ≡ AtNumber) q w) (and_second (u == 48) (legacy (slice_index z 0)) e)))
     (λ e. subst (FrontIs h (u ∷ z)) (sym (digits_are u z)) (literal_found h u z w d (no_legacy u z e) n))
 
 -- ---- which base
@@ -481,7 +481,7 @@ number_at h u z w d (inl m) =
     subst (λ (o : Option Class). FrontIs h (u ∷ z) (code.number_by u z o)) (sym (mark_radix m.radix (slice_index z 0) m.is_mark_of))
     (by_cond (FrontIs h (u ∷ z)) (u == 48) _ _
     (λ e. let q = eqb-true u 48 e in
-        subst (λ (v : ℕ). FrontIs h (v ∷ z) (code.in_base (class_of m.radix) z)) (sym q) (in_base_found h m.radix z (subst (λ (v : ℕ). which h v z ≡ AtNumber) q w) m.is_mark_of))
+    subst (λ (v : ℕ). FrontIs h (v ∷ z) (code.in_base (class_of m.radix) z)) (sym q) (in_base_found h m.radix z (subst (λ (v : ℕ). which h v z ≡ AtNumber) q w) m.is_mark_of))
     (λ e. decimal_found h u z w d (λ r q k. no_truth (sym (eq-eqb u 48 q) ∙ e))))
 
 pub found_digits : (h : Bool) (u : ℕ) (z : Text) → which h u z ≡ AtNumber → is_digit u ≡ true → FrontIs h (u ∷ z) (code.number u z)

@@ -57,7 +57,7 @@ fn token(
 
 #[test]
 fn a_script_has_these_tokens(rt: HostRuntime) -> Result<(), Fail> {
-    let rows: [(&[u8], usize, Told, usize, bool); 86] = [
+    let rows: [(&[u8], usize, Told, usize, bool); 96] = [
         (b"", 0, Told::End, 0, false),
         (b"a", 1, Told::End, 1, false),
         (b"\na\n", 1, Told::End, 3, true),
@@ -121,7 +121,17 @@ fn a_script_has_these_tokens(rt: HostRuntime) -> Result<(), Fail> {
         (b"0x1n", 0, Told::NoNumber, 0, false),
         (b"1na", 0, Told::Syntax, 0, false),
         (b"3in", 0, Told::Syntax, 0, false),
-        (b"1_0", 0, Told::Syntax, 0, false),
+        (b"1_0", 0, Told::NoNumber, 0, false),
+        (b"0x1_F", 0, Told::NoNumber, 0, false),
+        (b"1_0n", 0, Told::NoNumber, 0, false),
+        (b"a .5_0e1_0", 1, Told::NoNumber, 2, false),
+        (b"1_0.5_0 a", 0, Told::NoNumber, 0, false),
+        (b"0_1", 0, Told::Syntax, 0, false),
+        (b"1_", 0, Told::Syntax, 0, false),
+        (b"1__0", 0, Told::Syntax, 0, false),
+        (b"1._5", 0, Told::Syntax, 0, false),
+        (b"0x_1", 0, Told::Syntax, 0, false),
+        (b"1_0a", 0, Told::Syntax, 0, false),
         // strings
         (b"'\xF0\x9F\x98\x80' a", 1, Told::Name, 5, false),
         (b"a 'b", 1, Told::Syntax, 2, false),

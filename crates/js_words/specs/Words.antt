@@ -1,5 +1,6 @@
 -- The strengths of binary operators, and the words and forms of ECMA-262 that scripts have not.
 use Rattle.std.specs.Prelude.{ℕ, ◌+◌, Bool, true, false, cond, List, codes, slice_get, Option, Some, None}
+use Rattle.std.specs.Str.{bytes_eq}
 use Rattle.js_lex.specs.declared.token.Punctuator.{Punctuator}
 use Rattle.js_lex.specs.declared.token.Punctuator.TheVariants as p
 use Rattle.js_lex.specs.declared.token.Reserved.{Reserved}
@@ -7,7 +8,6 @@ use Rattle.js_lex.specs.declared.token.Reserved.TheVariants as r
 use Rattle.js_lex.specs.declared.token.TokenKind.{TokenKind}
 use Rattle.js_lex.specs.declared.token.TokenKind.TheVariants as tok
 use Rattle.js_lex.specs.declared.token.Token.{Token}
-use Rattle.js_lex.specs.Front.{same_text}
 use Rattle.js_words.specs.declared.word.Word.{Word}
 use Rattle.js_words.specs.declared.word.Word.TheVariants as w
 use Rattle.js_words.specs.declared.word.Spot.{Spot}
@@ -35,7 +35,7 @@ abbrev pub strength : TokenKind → Option ℕ
 strength (tok.Punctuator s) = sign_strength s
 strength _ = None
 
--- words that are left out wherever they stand
+-- words that are left out wherever they stand, but as names
 abbrev pub reserved_word : Reserved → Option Word
 reserved_word r.Class = Some w.Class
 reserved_word r.Switch = Some w.Switch
@@ -136,7 +136,7 @@ is_colon (tok.Punctuator p.Colon) = true
 is_colon _ = false
 
 abbrev pub accessor : List ℕ → Option Word
-accessor u = cond (same_text u (codes "get")) (Some w.Get) (cond (same_text u (codes "set")) (Some w.Set) None)
+accessor u = cond (bytes_eq u (codes "get")) (Some w.Get) (cond (bytes_eq u (codes "set")) (Some w.Set) None)
 
 -- `get` and `set` before a key; a name and `:` as a statement
 abbrev pub name_word : Spot → List ℕ → TokenKind → Option Word
@@ -148,8 +148,22 @@ abbrev pub name_before : Spot → List ℕ → Option Token → Option Word
 name_before s u (Some next) = name_word s u next.kind
 name_before s u None = None
 
+-- a key ends before these
+abbrev pub ends_key : TokenKind → Bool
+ends_key (tok.Punctuator p.Colon) = true
+ends_key (tok.Punctuator p.OpenParen) = true
+ends_key _ = false
+
+abbrev pub is_key_before : Spot → Option Token → Bool
+is_key_before spot.Key (Some next) = ends_key next.kind
+is_key_before _ _ = false
+
+-- a reserved word, which stands as a name where it is a key
+abbrev pub reserved_before : Spot → Reserved → Option Token → Option Word
+reserved_before s x next = cond (is_key_before s next) None (reserved_word x)
+
 abbrev pub word_before : Spot → TokenKind → Option Token → Option Word
-word_before s (tok.Reserved x) next = reserved_word x
+word_before s (tok.Reserved x) next = reserved_before s x next
 word_before s (tok.Punctuator x) next = word_by s x
 word_before s (tok.Name u) next = name_before s u next
 word_before s _ next = None

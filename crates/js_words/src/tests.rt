@@ -24,7 +24,7 @@ fn word(alloc: Global, script: &[u8], number: usize, spot: Spot) -> Result<Optio
 
 #[test]
 fn the_words_at_each_spot(rt: HostRuntime) -> Result<(), Fail> {
-    let rows: [(&[u8], usize, Spot, Option<Word>); 38] = [
+    let rows: [(&[u8], usize, Spot, Option<Word>); 41] = [
         (b"class A", 0, STATEMENT, Some(Word::Class)),
         (b"a in b", 1, OPERAND, Some(Word::In)),
         (b"import a", 0, STATEMENT, Some(Word::Import)),
@@ -64,6 +64,9 @@ fn the_words_at_each_spot(rt: HostRuntime) -> Result<(), Fail> {
         (b"{set 'a'(b) {}}", 1, KEY, Some(Word::Set)),
         (b"{get: 1}", 1, KEY, None),
         (b"{get() {}}", 1, KEY, None),
+        (b"{class: 1}", 1, KEY, None),
+        (b"{in() {}}", 1, KEY, None),
+        (b"{class}", 1, KEY, Some(Word::Class)),
         // no words
         (b"1.5", 0, EXPRESSION, None),
         (b"a", 2, EXPRESSION, None),

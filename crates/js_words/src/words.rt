@@ -215,11 +215,47 @@ fn name_word(spot: Spot, name: &Units, next: &TokenKind) -> Option<Word>
     }
 }
 
+/// A key ends before this token.
+fn ends_key(kind: &TokenKind) -> bool
+    ensures { result ≡ spec.ends_key kind.now }
+{
+    match kind {
+        TokenKind::Punctuator(sign) => match sign {
+            Punctuator::Colon | Punctuator::OpenParen => true,
+            _ => false,
+        },
+        _ => false,
+    }
+}
+
+fn is_key_before(spot: Spot, next: Option<&Token>) -> bool
+    ensures { result ≡ spec.is_key_before spot (option_copied next.entry) }
+{
+    match spot {
+        Spot::Key => match next {
+            Some(next) => ends_key(&next.kind),
+            None => false,
+        },
+        _ => false,
+    }
+}
+
+/// The word of a reserved word, which stands as a name where it is a key.
+fn reserved_before(spot: Spot, word: Reserved, next: Option<&Token>) -> Option<Word>
+    ensures { result ≡ spec.reserved_before spot word (option_copied next.entry) }
+{
+    if is_key_before(spot, next) {
+        None
+    } else {
+        reserved_word(word)
+    }
+}
+
 fn word_before(spot: Spot, kind: &TokenKind, next: Option<&Token>) -> Option<Word>
     ensures { result ≡ spec.word_before spot kind.now (option_copied next.entry) }
 {
     match kind {
-        TokenKind::Reserved(word) => reserved_word(*word),
+        TokenKind::Reserved(word) => reserved_before(spot, *word, next),
         TokenKind::Punctuator(sign) => word_by(spot, *sign),
         TokenKind::Name(name) => match next {
             Some(next) => name_word(spot, name, &next.kind),
@@ -241,8 +277,10 @@ fn token_behind(tokens: &Tokens, at: usize) -> Option<&Token>
     }
 }
 
-/// The word or form that scripts have not, of the token at a place in the list: what stands there
-/// says the spot. None where the token has none, and where it is `Bad`, which carries its own fault.
+/// The word or form of ECMA-262 that scripts have not, of the token at a place in the list (an
+/// index, from 0), where the spot says what stands there. None where the token has none there,
+/// where the list ends before, and where it is `Bad`, which carries its own fault. A label has its
+/// word at the name, not at the `:`. `docs/SCRIPTS.md` lists the words.
 pub fn word_of(tokens: &Tokens, at: usize, spot: Spot) -> Option<Word>
     ensures { result ≡ spec.word_of tokens.now at spot }
 {
