@@ -1,6 +1,7 @@
 -- The characters of strings and templates.
-use Rattle.std.proofs.Common.{◌≡◌, ℕ, zero, suc, ◌+◌, ◌*◌, ◌≤◌, Bool, true, false, cond, List, [], ◌∷◌, ◌++◌, take, drop, length, Option, Some, None, refl, sym, ◌∙◌, ap, subst, arith, append_assoc, ◌⊎◌, inl, inr}
-use Rattle.std.specs.Prelude.{◌==◌, ◌&&◌, ◌||◌, not, nat_le, slice_index}
+use Rattle.std.proofs.Common.{◌≡◌, ℕ, zero, suc, ◌+◌, ◌-◌, ◌*◌, ◌≤◌, Bool, true, false, cond, List, [], ◌∷◌, ◌++◌, take, drop, length, Option, Some, None, refl, sym, ◌∙◌, ap, subst, arith, append_assoc, ◌⊎◌, inl, inr}
+use Rattle.js_lex.specs.Values.{code_units, escaped}
+use Rattle.std.specs.Prelude.{◌/◌, ◌%◌, ◌==◌, ◌&&◌, ◌||◌, not, nat_le, slice_index}
 use Rattle.std.proofs.lemmas.Bool.{eqb-true, eq-eqb, le-leb, leb-true}
 use Rattle.std.proofs.lemmas.List.{length-append}
 use Rattle.js_lex.specs.declared.units.Class.TheVariants as class
@@ -16,11 +17,10 @@ use Rattle.js_lex.specs.declared.letters.Next.TheVariants as next
 use Rattle.js_lex.specs.declared.letters.Body.{Body}
 use Rattle.js_lex.specs.Units.{Text, is_line_end, is_digit, is_hex, digit_of, value}
 use Rattle.js_lex.specs.Runs.{past, numeral}
-use Rattle.js_lex.specs.Values.{meant, encoded, escaped}
-use Rattle.js_lex.specs.Letters.{one, hex_escape, four_digits, of_code, code_point, unicode_escape, digit_escape, line_units, line_continuation, escape, raw, letter_of, ending_units, read, end_or, next_of, after, joined, body_of}
+use Rattle.js_lex.specs.Letters.{meant, encoded, one, hex_escape, four_digits, of_code, code_point, unicode_escape, digit_escape, line_units, line_continuation, escape, raw, letter_of, ending_units, read, end_or, next_of, after, joined, body_of}
 use Rattle.js_lex.specs.Grammar.{Every, Passes, NotNext, is, HexDigits, Character, Plain, Line, Escape, Nul, HexPair, Four, CodePoint, Continued, character_units, character_value, LineEnds, Returns, IsPlain, StandsIn, characters_units, characters_value, AreCharacters, mark, ending_text}
 use Rattle.js_lex.proofs.LetterLemmas.{body_drop}
-use Rattle.js_lex.proofs.Truths.{cond_yes, cond_no, either, or_no, or_first, or_second, or_split, and_first, and_second, and_both, and_no_first, and_no_second, not_yes, not_no, apart}
+use Rattle.js_lex.proofs.Truths.{cond_yes, cond_no, cond_ap, either, or_no, or_first, or_second, or_split, and_first, and_second, and_both, and_no_first, and_no_second, not_yes, not_no, apart}
 use Rattle.js_lex.proofs.Runs.{run, run_exact, run_passes, run_length, take_here, drop_here, one_behind}
 use Rattle.js_lex.proofs.Signs.{no_truth}
 
@@ -144,13 +144,16 @@ point_code ds z d v =
     ∙ ap (λ (x : Text). of_code (length ds + 3) (numeral 1114111 16 0 x)) (take_here ds (125 ∷ z))
     ∙ ap (of_code (length ds + 3)) (cond_yes _ _ _ (le-leb (value 16 0 ds) 1114111 v))
 
+encodes : (c : ℕ) → meant (encoded c) ≡ code_units c
+encodes c = cond_ap meant (nat_le 65536 c) (m.Pair (55296 + (c - 65536) / 1024) (56320 + (c - 65536) % 1024)) (m.One c)
+
 point_letter : (q : Quote) (ds z : Text) → HexDigits ds → value 16 0 ds ≤ 1114111 → Letters q (CodePoint ds) z
 point_letter q ds z d v =
     record {
       l = letter (length ds + 3) (encoded (value 16 0 ds));
       at = escape_next q (117 ∷ 123 ∷ ((ds ++ 125 ∷ []) ++ z)) ∙ ap (λ (x : Text). read (code_point x)) (append_assoc ds (125 ∷ []) z) ∙ ap read (point_code ds z d v);
       size = omega (arith, length-append ds (125 ∷ []));
-      means = refl;
+      means = encodes (value 16 0 ds);
     }
 
 continued_letter : (q : Quote) (e z : Text) → LineEnds e z → Letters q (Continued e) z
@@ -296,7 +299,7 @@ point_at q z n e =
       text = ap (λ (x : Text). 92 ∷ 117 ∷ 123 ∷ x) parts;
       stands = ((subst (λ (k : ℕ). Every (Passes is_hex) (take k z)) (sym e) (run_passes is_hex z), omega (arith, some, len)), leb-true (value 16 0 (take n z)) 1114111 y);
       size = omega (arith, length-append (take n z) (125 ∷ []), len);
-      means = refl;
+      means = encodes (value 16 0 (take n z));
     }) (λ y. tt))
 
 unicode_known : (q : Quote) (z : Text) → Known q (92 ∷ 117 ∷ z) (unicode_escape z)

@@ -9,8 +9,7 @@ use Rattle.js_lex.specs.declared.letters.Next.{Next}
 use Rattle.js_lex.specs.declared.letters.Next.TheVariants as next
 use Rattle.js_lex.specs.declared.letters.Body.{Body}
 use Rattle.js_lex.specs.Units.{Text}
-use Rattle.js_lex.specs.Values.{meant}
-use Rattle.js_lex.specs.Letters.{body_of, after, joined, next_of, ending_units}
+use Rattle.js_lex.specs.Letters.{meant, body_of, after, joined, next_of, ending_units}
 
 pub body_drop : (q : Quote) (n : ℕ) (z : Text) → body_of q n z ≡ body_of q 0 (drop n z)
 body_drop q zero z = refl

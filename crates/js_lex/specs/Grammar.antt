@@ -14,7 +14,7 @@ use Rattle.js_lex.specs.declared.letters.Ending.{Ending}
 use Rattle.js_lex.specs.declared.letters.Ending.TheVariants as ending
 use Rattle.js_lex.specs.Tables.{reserved_words, punctuators}
 use Rattle.js_lex.specs.Units.{Text, is_line_end, is_white, is_digit, is_hex, is_name, is_part, is_between, value}
-use Rattle.js_lex.specs.Values.{meant, encoded, escaped, max_safe, part_of}
+use Rattle.js_lex.specs.Values.{code_units, escaped, max_safe, part_of}
 use Rattle.js_lex.specs.Places.{in_hole, braces, fault, token}
 
 abbrev pub Passes : (ℕ → Bool) → ℕ → Type 0
@@ -174,7 +174,7 @@ character_value (Escape u) = escaped u ∷ []
 character_value Nul = 0 ∷ []
 character_value (HexPair h l) = value 16 0 (h ∷ l ∷ []) ∷ []
 character_value (Four a b c d) = value 16 0 (a ∷ b ∷ c ∷ d ∷ []) ∷ []
-character_value (CodePoint ds) = meant (encoded (value 16 0 ds))
+character_value (CodePoint ds) = code_units (value 16 0 ds)
 character_value (Continued e) = []
 
 -- LineTerminatorSequence (section 12.3), with a text behind it: LF, CR where no LF follows, LS, PS, CR LF

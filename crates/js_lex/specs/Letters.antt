@@ -1,8 +1,9 @@
 -- The letters of string literals and templates: what private functions tell. The contract of `lex` speaks of Grammar alone.
-use Rattle.std.specs.Prelude.{◌≤◌, ℕ, zero, suc, ◌+◌, ◌*◌, cond, not, ◌&&◌, ◌||◌, ◌==◌, nat_le, List, [], ◌∷◌, ◌++◌, take, drop, length, slice_index, Option, Some, None}
+use Rattle.std.specs.Prelude.{◌≤◌, ℕ, zero, suc, ◌+◌, ◌-◌, ◌*◌, ◌/◌, ◌%◌, cond, not, ◌&&◌, ◌||◌, ◌==◌, nat_le, List, [], ◌∷◌, ◌++◌, take, drop, length, slice_index, Option, Some, None}
 use Rattle.js_lex.specs.declared.units.Class.TheVariants as class
 use Rattle.js_lex.specs.declared.letters.Quote.{Quote}
 use Rattle.js_lex.specs.declared.letters.Quote.TheVariants as quote
+use Rattle.js_lex.specs.declared.letters.Meaning.{Meaning}
 use Rattle.js_lex.specs.declared.letters.Meaning.TheVariants as m
 use Rattle.js_lex.specs.declared.letters.Letter.{Letter}
 use Rattle.js_lex.specs.declared.letters.Ending.{Ending}
@@ -12,7 +13,16 @@ use Rattle.js_lex.specs.declared.letters.Next.TheVariants as next
 use Rattle.js_lex.specs.declared.letters.Body.{Body}
 use Rattle.js_lex.specs.Units.{Text, is_line_end, is_digit, is_hex, digit_of}
 use Rattle.js_lex.specs.Runs.{past, numeral}
-use Rattle.js_lex.specs.Values.{meant, encoded, escaped}
+use Rattle.js_lex.specs.Values.{escaped}
+
+abbrev pub meant : Meaning → List ℕ
+meant m.Nothing = []
+meant (m.One u) = u ∷ []
+meant (m.Pair u v) = u ∷ v ∷ []
+
+-- what a code point is encoded by (`code_units`)
+abbrev pub encoded : ℕ → Meaning
+encoded c = cond (nat_le 65536 c) (m.Pair (55296 + (c - 65536) / 1024) (56320 + (c - 65536) % 1024)) (m.One c)
 
 -- a letter of one unit and n more
 abbrev pub one : ℕ → ℕ → Option Letter

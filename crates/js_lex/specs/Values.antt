@@ -2,8 +2,6 @@
 use Rattle.std.specs.Prelude.{ℕ, ◌+◌, ◌-◌, ◌/◌, ◌%◌, Bool, true, false, cond, ◌==◌, nat_le, List, [], ◌∷◌}
 use Rattle.js_lex.specs.declared.token.TemplatePart.{TemplatePart}
 use Rattle.js_lex.specs.declared.token.TemplatePart.TheVariants as part
-use Rattle.js_lex.specs.declared.letters.Meaning.{Meaning}
-use Rattle.js_lex.specs.declared.letters.Meaning.TheVariants as m
 use Rattle.js_lex.specs.declared.letters.Ending.{Ending}
 use Rattle.js_lex.specs.declared.letters.Ending.TheVariants as ending
 
@@ -11,17 +9,11 @@ use Rattle.js_lex.specs.declared.letters.Ending.TheVariants as ending
 abbrev pub max_safe : ℕ
 max_safe = 9007199254740991
 
--- no unit, one, or a pair of surrogates
-abbrev pub meant : Meaning → List ℕ
-meant m.Nothing = []
-meant (m.One u) = u ∷ []
-meant (m.Pair u v) = u ∷ v ∷ []
+-- ECMA-262, section 11.1.1, UTF16EncodeCodePoint: a unit, or a pair of surrogates
+abbrev pub code_units : ℕ → List ℕ
+code_units c = cond (nat_le 65536 c) ((55296 + (c - 65536) / 1024) ∷ (56320 + (c - 65536) % 1024) ∷ []) (c ∷ [])
 
--- ECMA-262, section 11.1.1, UTF16EncodeCodePoint
-abbrev pub encoded : ℕ → Meaning
-encoded c = cond (nat_le 65536 c) (m.Pair (55296 + (c - 65536) / 1024) (56320 + (c - 65536) % 1024)) (m.One c)
-
--- SingleEscapeCharacter and NonEscapeCharacter: n t r b f v, and any other unit for itself
+-- section 12.9.4, SingleEscapeCharacter and NonEscapeCharacter: n t r b f v, and any other unit for itself
 abbrev pub escaped : ℕ → ℕ
 escaped u = cond (u == 110) 10 (cond (u == 116) 9 (cond (u == 114) 13 (cond (u == 98) 8 (cond (u == 102) 12 (cond (u == 118) 11 u)))))
 

@@ -1,6 +1,7 @@
 ghost use Rattle.std.specs.Prelude.{◌≡◌, ◌≤◌, ◌<◌, ◌+◌, [], ◌++◌, length, IfOk, IfSome, OnOk};
 ghost use Rattle.js_lex.specs.Letters as spec;
-ghost use Rattle.js_lex.specs.Values.{encoded, escaped, meant};
+ghost use Rattle.js_lex.specs.Letters.{encoded, meant};
+ghost use Rattle.js_lex.specs.Values.{escaped};
 
 use crate::units::{Class, digit_of, is_digit, is_hex, is_line_end, numeral, past, unit};
 use std::alloc::Global;
