@@ -18,7 +18,8 @@ use Rattle.js_lex.specs.declared.letters.Body.{Body}
 use Rattle.js_lex.specs.Units.{Text, is_line_end, is_digit, is_hex, digit_of, value}
 use Rattle.js_lex.specs.Runs.{past, numeral}
 use Rattle.js_lex.specs.Letters.{meant, encoded, one, hex_escape, four_digits, of_code, code_point, unicode_escape, digit_escape, line_units, line_continuation, escape, raw, letter_of, ending_units, read, end_or, next_of, after, joined, body_of}
-use Rattle.js_lex.specs.Grammar.{Every, Passes, NotNext, is, HexDigits, Character, Plain, Line, Escape, Nul, HexPair, Four, CodePoint, Continued, character_units, character_value, LineEnds, Returns, IsPlain, StandsIn, characters_units, characters_value, AreCharacters, mark, ending_text}
+use Rattle.js_lex.specs.Lists.{Every, Passes, NotNext, is}
+use Rattle.js_lex.specs.Characters.{HexDigits, Character, Plain, Line, Escape, Nul, HexPair, Four, CodePoint, Continued, character_units, character_value, LineEnds, Returns, IsPlain, StandsIn, characters_units, characters_value, AreCharacters, mark, ending_text}
 use Rattle.js_lex.proofs.LetterLemmas.{body_drop}
 use Rattle.js_lex.proofs.Truths.{cond_yes, cond_no, cond_ap, either, or_no, or_first, or_second, or_split, and_first, and_second, and_both, and_no_first, and_no_second, not_yes, not_no, apart}
 use Rattle.js_lex.proofs.Runs.{run, run_exact, run_passes, run_length, take_here, drop_here, one_behind}

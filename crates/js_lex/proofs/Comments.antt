@@ -10,7 +10,9 @@ use Rattle.js_lex.specs.Tables.{punctuators}
 use Rattle.js_lex.specs.Units.{Text, is_line_end}
 use Rattle.js_lex.specs.Runs.{past}
 use Rattle.js_lex.specs.Front as code
-use Rattle.js_lex.specs.Grammar.{In, NotNext, is, is_inner, NoEnd, some, Element, White, LineEnd, LineComment, BlockComment, Word, Numeric, String, Part, Sign, units, Stands, IsLongest, Gap}
+use Rattle.js_lex.specs.Lists.{In, NotNext, is, some}
+use Rattle.js_lex.specs.Elements.{is_inner, NoEnd, Element, White, LineEnd, LineComment, BlockComment, Word, Numeric, String, Part, Sign, units, Stands, IsLongest}
+use Rattle.js_lex.specs.Grammar.{Gap}
 use Rattle.js_lex.proofs.Truths.{cond_no, either, and_first, and_second, and_both, and_no_first, and_no_second, not_yes, all_of, in_all}
 use Rattle.js_lex.proofs.Which.{Which, AtSlash, sort}
 use Rattle.js_lex.proofs.Runs.{run, run_passes, run_least, run_length, both_parts, take_here}

@@ -8,7 +8,7 @@ use Rattle.js_lex.specs.Runs.{past_digits, past_some, digits_len}
 use Rattle.js_lex.specs.Front.{past_fraction, past_exponent}
 use Rattle.js_lex.proofs.Truths.{cond_ap}
 use Rattle.js_lex.proofs.Exponents.{plus_suc, past_suc, exponent_suc}
-use Rattle.js_lex.specs.Grammar.{Digits, Exponent, NoExponent, Exponential, exponent_units, IsExponent, Fraction, NoFraction, Fractional, fraction_units, IsFraction}
+use Rattle.js_lex.specs.Numbers.{Digits, Exponent, NoExponent, Exponential, exponent_units, IsExponent, Fraction, NoFraction, Fractional, fraction_units, IsFraction}
 use Rattle.js_lex.proofs.Runs.{both_parts, drop_here}
 use Rattle.js_lex.proofs.Separated.{Ends, digits_least, digits_exact, digits_length}
 use Rattle.js_lex.proofs.Points.{letter_ends}

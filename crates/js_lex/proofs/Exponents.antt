@@ -7,7 +7,8 @@ use Rattle.js_lex.specs.declared.units.Class.TheVariants as class
 use Rattle.js_lex.specs.Units.{Text, is_digit}
 use Rattle.js_lex.specs.Runs.{past_digits, digits_len}
 use Rattle.js_lex.specs.Front.{begins_exponent, past_exponent}
-use Rattle.js_lex.specs.Grammar.{In, Digits, Exponent, NoExponent, Exponential, exponent_units, IsExponent}
+use Rattle.js_lex.specs.Lists.{In}
+use Rattle.js_lex.specs.Numbers.{Digits, Exponent, NoExponent, Exponential, exponent_units, IsExponent}
 use Rattle.js_lex.proofs.Truths.{cond_yes, cond_no, cond_ap, either, and_first, and_second, and_both, or_split, or_yes_first, or_yes_second}
 use Rattle.js_lex.proofs.Runs.{both_parts}
 use Rattle.js_lex.proofs.Separated.{clear_digit, must_of, digits_pass, digits_least, digits_length, first_digit}

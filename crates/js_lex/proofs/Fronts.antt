@@ -14,7 +14,11 @@ use Rattle.js_lex.specs.Units.{Text, is_line_end, is_white, is_digit, is_name}
 use Rattle.js_lex.specs.Letters.{ending_units}
 use Rattle.js_lex.specs.Values.{part_of}
 use Rattle.js_lex.specs.Front as code
-use Rattle.js_lex.specs.Grammar.{In, Digits, some, Number, Decimal, Point, Big, Based, number_units, IsNumber, IsInteger, number_value, ReadsValue, characters_units, characters_value, mark, string_quote, part_begin, ending_text, Element, White, LineEnd, LineComment, BlockComment, Word, Numeric, String, Part, Sign, units, Stands, IsLongest, Begins, Reading, Token, ReadsNumber, Reads, IsPiece}
+use Rattle.js_lex.specs.Lists.{In, some}
+use Rattle.js_lex.specs.Numbers.{Digits, Number, Decimal, Point, Big, Based, number_units, IsNumber, IsInteger, number_value}
+use Rattle.js_lex.specs.Characters.{characters_units, characters_value, mark, ending_text}
+use Rattle.js_lex.specs.Elements.{string_quote, part_begin, Element, White, LineEnd, LineComment, BlockComment, Word, Numeric, String, Part, Sign, units, Stands, IsLongest, Begins}
+use Rattle.js_lex.specs.Grammar.{ReadsValue, Reading, Token, ReadsNumber, Reads, IsPiece}
 use Rattle.js_lex.proofs.Truths.{cond_yes, cond_no, and_first, and_second, not_yes, in_all}
 use Rattle.js_lex.proofs.Which.{Which, AtLineEnd, AtWhite, AtString, AtPart, AtNumber, AtName, AtPoint, AtSlash, AtSign, which, which_of, which_word, which_number, front_by, front_which, sort, sorted}
 use Rattle.js_lex.proofs.Runs.{take_here}

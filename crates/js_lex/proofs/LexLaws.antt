@@ -14,7 +14,8 @@ use Rattle.js_lex.specs.Units.{Text}
 use Rattle.js_lex.specs.Places.{in_hole, token}
 use Rattle.js_lex.proofs.Whole.{put, tokens_from, tokens_of}
 use Rattle.js_lex.specs.Front as code
-use Rattle.js_lex.specs.Grammar.{Element, White, LineEnd, LineComment, BlockComment, Word, Numeric, String, Part, Sign, units, Stands, Begins, BeginsNone, Reading, Gap, Token, Refused, Reads, Piece, text_of, IsRead, braces_behind, open_braces, IsPiece, ArePieces, Stops, piece_tokens, line_ends, tokens, AreTokens}
+use Rattle.js_lex.specs.Elements.{Element, White, LineEnd, LineComment, BlockComment, Word, Numeric, String, Part, Sign, units, Stands, Begins, BeginsNone}
+use Rattle.js_lex.specs.Grammar.{Reading, Gap, Token, Refused, Reads, Piece, text_of, IsRead, braces_behind, open_braces, IsPiece, ArePieces, Stops, piece_tokens, line_ends, tokens, AreTokens}
 use Rattle.js_lex.proofs.Truths.{in_all}
 use Rattle.js_lex.proofs.ScanLemmas.{from_drop, whole}
 use Rattle.js_lex.specs.declared.scan.State.{State}

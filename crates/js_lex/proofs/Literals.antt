@@ -12,7 +12,9 @@ use Rattle.js_lex.specs.Units.{Text}
 use Rattle.js_lex.specs.Letters.{ending_units, body_of}
 use Rattle.js_lex.specs.Values.{part_of}
 use Rattle.js_lex.specs.Front as code
-use Rattle.js_lex.specs.Grammar.{Character, characters_units, characters_value, AreCharacters, mark, ending_text, string_quote, part_begin, Element, White, LineEnd, LineComment, BlockComment, Word, Numeric, String, Part, Sign, units, Stands, Token}
+use Rattle.js_lex.specs.Characters.{Character, characters_units, characters_value, AreCharacters, mark, ending_text}
+use Rattle.js_lex.specs.Elements.{string_quote, part_begin, Element, White, LineEnd, LineComment, BlockComment, Word, Numeric, String, Part, Sign, units, Stands}
+use Rattle.js_lex.specs.Grammar.{Token}
 use Rattle.js_lex.proofs.Which.{Which, AtString, AtPart, which, sort}
 use Rattle.js_lex.proofs.Characters.{MayEnd, body, body_whole, BodyIs, body_sound}
 use Rattle.js_lex.proofs.Longest.{Found, FrontIs, sort_of, word_sort, number_sort}

@@ -5,7 +5,9 @@ use Rattle.js_lex.specs.declared.front.Front.{Front}
 use Rattle.js_lex.specs.declared.front.Front.TheVariants as front
 use Rattle.js_lex.specs.declared.front.Unread.TheVariants as bad
 use Rattle.js_lex.specs.Units.{Text, is_line_end, is_white}
-use Rattle.js_lex.specs.Grammar.{Number, Decimal, Based, Point, Big, Element, White, LineEnd, LineComment, BlockComment, Word, Numeric, String, Part, Sign, units, Stands, Begins, BeginsNone, Reading, Gap, Token, Refused, Reads}
+use Rattle.js_lex.specs.Numbers.{Number, Decimal, Based, Point, Big}
+use Rattle.js_lex.specs.Elements.{Element, White, LineEnd, LineComment, BlockComment, Word, Numeric, String, Part, Sign, units, Stands, Begins, BeginsNone}
+use Rattle.js_lex.specs.Grammar.{Reading, Gap, Token, Refused, Reads}
 use Rattle.js_lex.proofs.Truths.{cond_yes, cond_no}
 use Rattle.js_lex.proofs.Which.{Which, AtLineEnd, AtWhite, AtNumber, AtPoint, AtSlash, AtSign, which, which_of, which_sign, which_number, which_word, sort, sorted}
 

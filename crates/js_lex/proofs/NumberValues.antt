@@ -7,7 +7,8 @@ use Rattle.js_lex.specs.declared.units.Class.TheVariants as class
 use Rattle.js_lex.specs.Units.{Text, is_digit, value}
 use Rattle.js_lex.specs.Runs.{is_in}
 use Rattle.js_lex.specs.Front.{radix, base}
-use Rattle.js_lex.specs.Grammar.{is, some, Digits, IsInteger, Radix, Hex, Octal, Binary, radix_value, is_mark, is_digit_of, NoExponent, Exponential, exponent_units, NoFraction, Fractional, Number, Decimal, Point, Big, Based, suffix, number_units, IsNumber, digits_value, number_value}
+use Rattle.js_lex.specs.Lists.{is, some}
+use Rattle.js_lex.specs.Numbers.{Digits, IsInteger, Radix, Hex, Octal, Binary, radix_value, is_mark, is_digit_of, NoExponent, Exponential, exponent_units, NoFraction, Fractional, Number, Decimal, Point, Big, Based, suffix, number_units, IsNumber, digits_value, number_value}
 use Rattle.js_lex.proofs.Truths.{cond_no, either, or_split, and_no_first, and_no_second, all_of}
 use Rattle.js_lex.proofs.Signs.{no_truth}
 use Rattle.js_lex.proofs.Separated.{Clear, clear_digit}

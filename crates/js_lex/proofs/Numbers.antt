@@ -13,7 +13,10 @@ use Rattle.js_lex.specs.Units.{Text, is_digit, is_name, digit_of, value}
 use Rattle.js_lex.specs.Runs.{is_in, past_digits, past_some, digits_len, at_most}
 use Rattle.js_lex.specs.Values.{max_safe}
 use Rattle.js_lex.specs.Front as code
-use Rattle.js_lex.specs.Grammar.{is, some, Digits, IsInteger, Radix, Hex, Octal, Binary, radix_value, is_mark, is_digit_of, Exponent, NoExponent, Exponential, exponent_units, IsExponent, Fraction, NoFraction, Fractional, fraction_units, IsFraction, Number, Decimal, Point, Big, Based, suffix, number_units, IsNumber, Element, White, LineEnd, LineComment, BlockComment, Word, Numeric, String, Part, Sign, units, Stands, Reading, Token, Refused, digits_value, number_value, ReadsValue, ReadsNumber}
+use Rattle.js_lex.specs.Lists.{is, some}
+use Rattle.js_lex.specs.Numbers.{Digits, IsInteger, Radix, Hex, Octal, Binary, radix_value, is_mark, is_digit_of, Exponent, NoExponent, Exponential, exponent_units, IsExponent, Fraction, NoFraction, Fractional, fraction_units, IsFraction, Number, Decimal, Point, Big, Based, suffix, number_units, IsNumber, digits_value, number_value}
+use Rattle.js_lex.specs.Elements.{Element, White, LineEnd, LineComment, BlockComment, Word, Numeric, String, Part, Sign, units, Stands}
+use Rattle.js_lex.specs.Grammar.{Reading, Token, Refused, ReadsValue, ReadsNumber}
 use Rattle.js_lex.proofs.Truths.{cond_yes, cond_no, either, or_no, or_first, or_second, apart, and_first, and_second, and_no_first, and_no_second, digit_name}
 use Rattle.js_lex.proofs.Which.{Which, AtNumber, which, which_number, sort}
 use Rattle.js_lex.proofs.Runs.{both_parts, drop_here, one_behind}

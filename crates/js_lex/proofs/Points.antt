@@ -11,7 +11,10 @@ use Rattle.js_lex.specs.Tables.{punctuators}
 use Rattle.js_lex.specs.Units.{Text, is_digit, is_name}
 use Rattle.js_lex.specs.Runs.{past_some}
 use Rattle.js_lex.specs.Front as code
-use Rattle.js_lex.specs.Grammar.{In, NotNext, Digits, OrNone, Number, Decimal, Point, Big, Based, number_units, Exponent, NoExponent, Exponential, exponent_units, IsExponent, Element, White, LineEnd, LineComment, BlockComment, Word, Numeric, String, Part, Sign, units, Stands, Reading, Refused, number_value, ReadsValue, ReadsNumber}
+use Rattle.js_lex.specs.Lists.{In, NotNext}
+use Rattle.js_lex.specs.Numbers.{Digits, OrNone, Number, Decimal, Point, Big, Based, number_units, Exponent, NoExponent, Exponential, exponent_units, IsExponent, number_value}
+use Rattle.js_lex.specs.Elements.{Element, White, LineEnd, LineComment, BlockComment, Word, Numeric, String, Part, Sign, units, Stands}
+use Rattle.js_lex.specs.Grammar.{Reading, Refused, ReadsValue, ReadsNumber}
 use Rattle.js_lex.proofs.Truths.{cond_yes, cond_no, either, and_both, not_yes, or_split, in_all}
 use Rattle.js_lex.proofs.Which.{AtPoint, which, sort}
 use Rattle.js_lex.proofs.Runs.{both_parts, drop_here}

@@ -2,7 +2,7 @@
 use Rattle.std.proofs.Common.{◌≡◌, ℕ, zero, suc, ◌+◌, ◌≤◌, Bool, true, false, cond, [], ◌∷◌, ◌++◌, take, drop, length, refl, sym, ◌∙◌, ap, subst, arith}
 use Rattle.std.specs.List.{prefix_len}
 use Rattle.js_lex.specs.Units.{Text}
-use Rattle.js_lex.specs.Grammar.{Passes, Every, NotNext}
+use Rattle.js_lex.specs.Lists.{Passes, Every, NotNext}
 
 pub one_behind : (n : ℕ) → 1 + n ≡ suc n
 one_behind n = omega arith

@@ -3,7 +3,7 @@ use Rattle.std.proofs.Common.{◌≡◌, ℕ, suc, ◌+◌, ◌≤◌, Bool, tru
 use Rattle.std.specs.Prelude.{◌==◌, ◌&&◌, slice_index}
 use Rattle.std.proofs.lemmas.Bool.{eqb-true, eq-eqb}
 use Rattle.js_lex.specs.Units.{Text, is_digit}
-use Rattle.js_lex.specs.Grammar.{Digits, OrNone}
+use Rattle.js_lex.specs.Numbers.{Digits, OrNone}
 use Rattle.js_lex.specs.Runs.{goes_on, digits_len}
 use Rattle.js_lex.proofs.Truths.{cond_yes, cond_no, or_split, or_first, or_no, or_yes_first, or_yes_second, and_first, and_second, and_both, and_no_first}
 use Rattle.js_lex.proofs.Runs.{one_behind, take_length, least_at, exact_at, none_at, run_within_at}

@@ -12,7 +12,9 @@ use Rattle.js_lex.specs.Tables.{punctuators}
 use Rattle.js_lex.specs.Units.{Text, is_digit}
 use Rattle.js_lex.specs.Runs.{begins}
 use Rattle.js_lex.specs.Front as code
-use Rattle.js_lex.specs.Grammar.{In, NotNext, is, Element, Sign, units, MayFollow, Stands, Token}
+use Rattle.js_lex.specs.Lists.{In, NotNext, is}
+use Rattle.js_lex.specs.Elements.{Element, Sign, units, MayFollow, Stands}
+use Rattle.js_lex.specs.Grammar.{Token}
 use Rattle.js_lex.proofs.Truths.{cond_yes, cond_no, either, and_first, and_second, and_both, not_yes, all_of, in_all}
 use Rattle.js_lex.proofs.Words.{begins_self}
 use Rattle.js_lex.proofs.Longest.{Found, FrontIs}

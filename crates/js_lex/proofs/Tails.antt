@@ -7,7 +7,7 @@ use Rattle.js_lex.specs.declared.units.Class.TheVariants as class
 use Rattle.js_lex.specs.Units.{Text, is_digit}
 use Rattle.js_lex.specs.Runs.{past_some, digits_len}
 use Rattle.js_lex.specs.Front.{past_fraction, past_exponent}
-use Rattle.js_lex.specs.Grammar.{Exponent, NoExponent, Exponential, exponent_units, IsExponent, Fraction, NoFraction, Fractional, fraction_units, IsFraction}
+use Rattle.js_lex.specs.Numbers.{Exponent, NoExponent, Exponential, exponent_units, IsExponent, Fraction, NoFraction, Fractional, fraction_units, IsFraction}
 use Rattle.js_lex.proofs.Truths.{cond_no, either, or_split}
 use Rattle.js_lex.proofs.Runs.{both_parts}
 use Rattle.js_lex.proofs.Separated.{clear_digit, some_len, some_pass, some_length}

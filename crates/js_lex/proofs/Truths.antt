@@ -3,7 +3,7 @@ use Rattle.std.proofs.Common.{◌≡◌, ℕ, ◌<◌, ◌≤◌, Bool, true, fa
 use Rattle.std.specs.Prelude.{not, ◌&&◌, ◌||◌, ◌==◌, nat_le}
 use Rattle.std.proofs.lemmas.Bool.{eqb-true, leb-true, lt-leb}
 use Rattle.js_lex.specs.Units.{is_between, is_white, is_line_end, is_digit, is_part, is_name}
-use Rattle.js_lex.specs.Grammar.{In}
+use Rattle.js_lex.specs.Lists.{In}
 
 pub cond_yes : {A : Type 0} (r : Bool) (x y : A) → r ≡ true → cond r x y ≡ x
 cond_yes true x y e = refl

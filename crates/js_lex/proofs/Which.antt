@@ -9,7 +9,10 @@ use Rattle.js_lex.specs.Tables.{punctuators}
 use Rattle.js_lex.specs.Units.{Text, is_line_end, is_white, is_digit, is_name}
 use Rattle.js_lex.specs.Front as code
 use Rattle.js_lex.specs.declared.front.Front.TheVariants as front
-use Rattle.js_lex.specs.Grammar.{In, Digits, IsInteger, Number, Decimal, Based, Point, Big, Element, White, LineEnd, LineComment, BlockComment, Word, Numeric, String, Part, Sign, units, number_units, exponent_units, characters_units, ending_text, string_quote, part_begin, mark, IsNumber, Stands, MayFollow}
+use Rattle.js_lex.specs.Lists.{In}
+use Rattle.js_lex.specs.Numbers.{Digits, IsInteger, Number, Decimal, Based, Point, Big, number_units, exponent_units, IsNumber}
+use Rattle.js_lex.specs.Characters.{characters_units, ending_text, mark}
+use Rattle.js_lex.specs.Elements.{Element, White, LineEnd, LineComment, BlockComment, Word, Numeric, String, Part, Sign, units, string_quote, part_begin, Stands, MayFollow}
 use Rattle.js_lex.proofs.Truths.{cond_yes, cond_no, cond_ap, or_first, or_second, and_first, and_second, and_no_first, not_yes, apart, name_no_white, name_no_line_end, white_no_line_end, digit_name, all_of, in_all}
 
 pub data Which : Type 0 where

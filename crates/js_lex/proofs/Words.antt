@@ -14,7 +14,9 @@ use Rattle.js_lex.specs.Tables.{reserved_words}
 use Rattle.js_lex.specs.Units.{Text, is_digit, is_part, is_name}
 use Rattle.js_lex.specs.Runs.{past, begins}
 use Rattle.js_lex.specs.Front as code
-use Rattle.js_lex.specs.Grammar.{In, Every, Passes, Element, White, LineEnd, LineComment, BlockComment, Word, Numeric, String, Part, Sign, units, Stands, IsLongest, Begins, Reading, Token, Refused, IsKind, IsAscii, ReadsWord}
+use Rattle.js_lex.specs.Lists.{In, Every, Passes}
+use Rattle.js_lex.specs.Elements.{Element, White, LineEnd, LineComment, BlockComment, Word, Numeric, String, Part, Sign, units, Stands, IsLongest, Begins}
+use Rattle.js_lex.specs.Grammar.{Reading, Token, Refused, IsKind, IsAscii, ReadsWord}
 use Rattle.js_lex.proofs.Truths.{cond_yes, cond_no, either, and_first, and_second, and_both, not_yes, part_name, all_of, in_all}
 use Rattle.js_lex.proofs.Which.{Which, AtLineEnd, AtWhite, AtString, AtPart, AtNumber, AtName, which, which_sign, sort}
 use Rattle.js_lex.proofs.Runs.{run, run_passes, run_least, run_length, every_wider, take_here, both_parts}

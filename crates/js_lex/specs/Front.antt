@@ -19,7 +19,7 @@ use Rattle.js_lex.specs.Units.{Text, is_line_end, is_white, is_digit, is_name, i
 use Rattle.std.specs.Str.{bytes_eq}
 use Rattle.js_lex.specs.Runs.{past, past_digits, past_some, numeral, begins}
 use Rattle.js_lex.specs.Values.{max_safe, part_of}
-use Rattle.js_lex.specs.Grammar.{is, some}
+use Rattle.js_lex.specs.Lists.{is, some}
 use Rattle.js_lex.specs.Letters.{body_of}
 
 -- how many units it has behind the first

@@ -1,5 +1,5 @@
 ghost use Rattle.std.specs.Prelude.{◌≡◌, ◌≢◌, ◌≤◌, ◌<◌, ◌^◌, ◌+◌, drop, length, slice_index, IfSome, IsTrue};
-ghost use Rattle.js_lex.specs.Grammar.{is, some};
+ghost use Rattle.js_lex.specs.Lists.{is, some};
 ghost use Rattle.js_lex.specs.Runs as runs;
 ghost use Rattle.js_lex.specs.Units as spec;
 

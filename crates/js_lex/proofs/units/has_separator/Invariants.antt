@@ -1,5 +1,5 @@
 use Rattle.std.proofs.Common.{◌≡◌, length}
-use Rattle.js_lex.specs.Grammar.{is, some}
+use Rattle.js_lex.specs.Lists.{is, some}
 use Rattle.js_lex.proofs.units.has_separator.Given as goal
 
 abbrev pub invariant-loop-text : goal.invariant-loop-text
