@@ -1,5 +1,6 @@
 pub mod FindLemmas
 pub mod Numbers
+pub mod ReachIsOne
 pub mod ReachLaws
 mod IndexLemmas
 mod MarkLemmas
