@@ -6,24 +6,24 @@ use Rattle.wd_base.specs.declared.config.Service.{Service}
 use Rattle.std.proofs.lemmas.Map.Keys.{any_passes_from_place}
 use Rattle.std.proofs.lemmas.Option.{slice_get_within}
 use Rattle.wd_graph.specs.Names.{names_differ, service_of, has_name, is_named}
-use Rattle.wd_graph.specs.Graph.{has_no, ascends_from, ascends, IsReach, Agrees, Reaches, name_at}
+use Rattle.wd_graph.specs.Graph.{has_service, ascends_from, ascends, IsReach, Agrees, Reaches, name_at}
 use Rattle.wd_graph.specs.Links.{first_unknown}
 use Rattle.wd_graph.specs.Walk.{MarkReach, numbers_from, MarkedStand}
 use Rattle.wd_graph.proofs.Numbers.{name_itself, numbered, known_number, number_name, place_name, place_service}
 use Rattle.wd_graph.proofs.ReachLaws.{reaches_known}
 use Rattle.wd_graph.proofs.WalkLemmas.{get_within, or_first, or_second}
 
-marked_number : (b : ℕ) (ms : List Bool) (j k : ℕ) → k ≡ b + j → slice_get ms j ≡ Some true → has_no (numbers_from b ms) k ≡ true
+marked_number : (b : ℕ) (ms : List Bool) (j k : ℕ) → k ≡ b + j → slice_get ms j ≡ Some true → has_service (numbers_from b ms) k ≡ true
 marked_number b [] j k q e = cc
-marked_number b (true ∷ ms) zero k q e = or_first (nat_eq b k) (has_no (numbers_from (b + 1) ms) k) (eq-eqb b k (omega arith))
+marked_number b (true ∷ ms) zero k q e = or_first (nat_eq b k) (has_service (numbers_from (b + 1) ms) k) (eq-eqb b k (omega arith))
 marked_number b (false ∷ ms) zero k q e = absurd (false≢true cc)
-marked_number b (true ∷ ms) (suc j) k q e = or_second (nat_eq b k) (has_no (numbers_from (b + 1) ms) k) (marked_number (b + 1) ms j k (omega arith) e)
+marked_number b (true ∷ ms) (suc j) k q e = or_second (nat_eq b k) (has_service (numbers_from (b + 1) ms) k) (marked_number (b + 1) ms j k (omega arith) e)
 marked_number b (false ∷ ms) (suc j) k q e = marked_number (b + 1) ms j k (omega arith) e
 
-number_marked : (b : ℕ) (ms : List Bool) (k : ℕ) → has_no (numbers_from b ms) k ≡ true → (j : ℕ) × (k ≡ b + j) × (slice_get ms j ≡ Some true)
+number_marked : (b : ℕ) (ms : List Bool) (k : ℕ) → has_service (numbers_from b ms) k ≡ true → (j : ℕ) × (k ≡ b + j) × (slice_get ms j ≡ Some true)
 number_marked b [] k e = absurd (false≢true e)
 number_marked b (true ∷ ms) k e =
-    elim (nat_eq b k) as (λ t. nat_eq b k ≡ t → (t || has_no (numbers_from (b + 1) ms) k) ≡ true → (j : ℕ) × (k ≡ b + j) × (slice_get (true ∷ ms) j ≡ Some true)) [
+    elim (nat_eq b k) as (λ t. nat_eq b k ≡ t → (t || has_service (numbers_from (b + 1) ms) k) ≡ true → (j : ℕ) × (k ≡ b + j) × (slice_get (true ∷ ms) j ≡ Some true)) [
       | true ↦ λ same h. let one : b ≡ k = eqb-true b k same in (0, omega arith, refl)
       | false ↦ λ other h. let r = number_marked (b + 1) ms k h in (suc r.0, omega (arith, r.1), r.2)
     ] refl e
