@@ -94,7 +94,7 @@ names_differ_internet ss differ =
       | false ↦ λ e. differ_push ss internet e differ
     ] refl
 
-or_true : (b : Bool) → (b || true) ≡ true
+pub or_true : (b : Bool) → (b || true) ≡ true
 or_true true = refl
 or_true false = refl
 

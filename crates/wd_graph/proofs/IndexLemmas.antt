@@ -48,9 +48,9 @@ lookup_insert name (e ∷ es) key v =
       | Greater ↦ λ h.
           let other : same_name key.items e.0.items ≡ false = texts_ties key.items e.0.items ∙ ap is_eq h in
           let never : at name e.0 ≡ true → same_name key.items name ≡ true → ⊥ = λ a b.
-              let second = one_name e.0.items name (sym (at_same name e.0) ∙ a) in
-              let first = one_name key.items name b in
-              false≢true (sym other ∙ ap (same_name key.items) (second ∙ sym first) ∙ name_itself key.items) in
+          let second = one_name e.0.items name (sym (at_same name e.0) ∙ a) in
+          let first = one_name key.items name b in
+          false≢true (sym other ∙ ap (same_name key.items) (second ∙ sym first) ∙ name_itself key.items) in
           ap (λ o. cond (at name e.0) (Some e.1) o) (lookup_insert name es key v) ∙ apart (at name e.0) (same_name key.items name) (Some v) (Some e.1) rest never
     ] refl
 

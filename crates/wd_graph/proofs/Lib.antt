@@ -1,7 +1,8 @@
 pub mod FindLemmas
 pub mod Numbers
-pub mod IndexLemmas
+pub mod ReachIsOne
 pub mod ReachLaws
-pub mod WalkLemmas
-pub mod MarkLemmas
-pub mod WorkerLemmas
+mod IndexLemmas
+mod MarkLemmas
+mod WalkLemmas
+mod WorkerLemmas

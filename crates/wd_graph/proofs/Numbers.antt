@@ -96,7 +96,8 @@ place_name ss k s e = ap name_in e
 pub number_name : (ss : List Service) (name : List ℕ) (k : ℕ) → number_of name ss ≡ Some k → name_at ss k ≡ name
 number_name ss name k e = let r = numbered ss name k e in place_name ss k r.service r.place ∙ r.named
 
-some_same : {X : Type 0} (x y : X) → Some x ≡ Some y → x ≡ y
+-- what stands in two equal options is one
+pub some_same : {X : Type 0} (x y : X) → Some x ≡ Some y → x ≡ y
 some_same x y e = cc
 
 none_some : {X : Type 0} (x : X) → ◌≡◌ {A = Option X} None (Some x) → ⊥
@@ -114,3 +115,29 @@ nowhere ss name k e g = let r = numbered ss name k e in none_some r.service (sym
 
 pub no_service : (ss : List Service) (name : List ℕ) (s : Service) → number_of name ss ≡ None → service_of name ss ≡ Some s → ⊥
 no_service ss name s e g = none_some s (sym (unnumbered ss name e) ∙ g)
+
+one_more : (n j : ℕ) → Some n ≡ Some (n + suc j) → ⊥
+one_more n j e = let same = some_same n (n + suc j) e in omega (arith, same)
+
+numbers_from_differ : (ss : List Service) (n : ℕ) → ((k : ℕ) (s : Service) → slice_get ss k ≡ Some s → position_from (is_named s.name) n ss ≡ Some (n + k)) → names_differ ss ≡ true
+numbers_from_differ [] n h = refl
+numbers_from_differ (x ∷ xs) n h =
+    let fresh : has_name xs x.name ≡ false =
+    elim (has_name xs x.name) as (λ b. has_name xs x.name ≡ b → b ≡ false) [
+      | true ↦ λ e.
+          let j = known_number xs x.name e in
+          let r = numbered xs x.name j.0 j.1 in
+          let mine : is_named r.service.name x ≡ true = ap (same_name x.name) r.named ∙ name_itself x.name in
+          absurd (one_more n j.0 (sym (ap (λ b. cond b (Some n) (position_from (is_named r.service.name) (n + 1) xs)) mine) ∙ h (suc j.0) r.service r.place))
+      | false ↦ λ e. refl
+    ] refl in
+    let rest : names_differ xs ≡ true = numbers_from_differ xs (n + 1) (λ k s e.
+    elim (is_named s.name x) as (λ b. cond b (Some n) (position_from (is_named s.name) (n + 1) xs) ≡ Some (n + suc k) → position_from (is_named s.name) (n + 1) xs ≡ Some (n + 1 + k)) [
+      | true ↦ λ g. absurd (one_more n k g)
+      | false ↦ λ g. g ∙ ap Some (omega arith)
+    ] (h (suc k) s e)) in
+    rw fresh rest
+
+-- where each service has its place as the number of its name, no two services have one name
+pub numbers_differ : (ss : List Service) → ((k : ℕ) (s : Service) → slice_get ss k ≡ Some s → number_of s.name ss ≡ Some k) → names_differ ss ≡ true
+numbers_differ ss h = numbers_from_differ ss 0 (λ k s e. h k s e ∙ ap Some (omega arith))

@@ -9,7 +9,7 @@ use Rattle.wd_graph.specs.Names.{same_name, has_name, service_of, worker_at, wor
 use Rattle.wd_graph.specs.Links.{first_unknown, is_unknown, named_by, named_in, named_at}
 use Rattle.wd_graph.specs.Graph.{has_text, targets_in, refers_to, Reaches, Itself, Further, StandsAlike, Agrees}
 use Rattle.wd_graph.proofs.FindLemmas.{find_append_some, find_append_none}
-use Rattle.wd_graph.proofs.Numbers.{one_name, numbered, found_number}
+use Rattle.wd_graph.proofs.Numbers.{some_same, known_number, one_name, numbered, found_number}
 
 -- what is reached is the least set that holds the name, and with each name those that its service can fetch from
 pub reaches_least : (ss : List Service) (from : List ℕ) (P : List ℕ → Type 0) → P from → ((by to : List ℕ) → P by → IsTrue (refers_to ss by to) → P to) → (to : List ℕ) → Reaches ss from to → P to
@@ -53,9 +53,6 @@ agrees_along a b from to agrees r = λ name s. agrees name (reaches_along a from
 
 pub agrees_refers : (a b : List Service) (from to : List ℕ) → Agrees a b from → IsTrue (refers_to a from to) → Agrees a b to
 agrees_refers a b from to agrees e = agrees_along a b from to agrees (Further from to Itself e)
-
-pub some_same : {X : Type 0} (x y : X) → Some x ≡ Some y → x ≡ y
-some_same x y e = cc
 
 pub agrees_transitive : (a b c : List Service) (from : List ℕ) → Agrees a b from → Agrees b c from → Agrees a c from
 agrees_transitive a b c from first second = λ name r.
@@ -108,3 +105,10 @@ refers_known config by to e h =
 pub reaches_known : (config : Config) (from to : List ℕ) → first_unknown config ≡ None → has_name config.services from ≡ true → Reaches config.services from to → has_name config.services to ≡ true
 reaches_known config from to e h r =
     reaches_least config.services from (λ name. has_name config.services name ≡ true) h (λ by next q f. refers_known config by next e f) to r
+
+-- a configuration whose names are known agrees with itself on each of its services
+pub agrees_itself : (config : Config) (from : List ℕ) → first_unknown config ≡ None → has_name config.services from ≡ true → Agrees config.services config.services from
+agrees_itself config from e h = λ name r.
+    let n = known_number config.services name (reaches_known config from name e h r) in
+    let s = numbered config.services name n.0 n.1 in
+    (s.service, s.found, s.found)

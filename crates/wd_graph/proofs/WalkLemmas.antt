@@ -9,8 +9,8 @@ use Rattle.wd_graph.specs.declared.walk.Walk.{Walk}
 use Rattle.wd_graph.specs.Names.{same_name, names_differ, number_of, worker_at}
 use Rattle.wd_graph.specs.Graph.{has_text, targets_in, refers_to, name_at, Reaches, Itself, Further}
 use Rattle.wd_graph.specs.Walk.{met, met_mark, met_number, met_name, met_names, visited, MarkReach}
-use Rattle.wd_graph.proofs.Numbers.{one_name, name_itself, numbered, unnumbered, number_name, place_name, place_number, place_service}
-use Rattle.wd_graph.proofs.ReachLaws.{reaches_least, some_same}
+use Rattle.wd_graph.proofs.Numbers.{some_same, one_name, name_itself, numbered, unnumbered, number_name, place_name, place_number, place_service}
+use Rattle.wd_graph.proofs.ReachLaws.{reaches_least}
 
 -- ---- lists of marks
 
@@ -172,10 +172,11 @@ names_grown : (ss : List Service) (w : Walk) (ts : List (List ℕ)) → Grown w 
 names_grown ss w [] = grown_same w
 names_grown ss w (t ∷ ts) = grown_on w (met_name ss w t) (met_names ss (met_name ss w t) ts) (name_grown ss w t) (names_grown ss (met_name ss w t) ts)
 
-or_first : (a b : Bool) → a ≡ true → (a || b) ≡ true
+-- of two tests, one of which holds
+pub or_first : (a b : Bool) → a ≡ true → (a || b) ≡ true
 or_first a b e = ap (λ t. t || b) e
 
-or_second : (a b : Bool) → b ≡ true → (a || b) ≡ true
+pub or_second : (a b : Bool) → b ≡ true → (a || b) ≡ true
 or_second true b e = refl
 or_second false b e = e
 
@@ -209,7 +210,6 @@ pub record Walking (ss : List Service) (number : ℕ) (w : Walk) (at : ℕ) : Ty
   pub started : slice_get w.marks number ≡ Some true
   pub within : at ≤ length w.order
   pub done : (i j : ℕ) → i < at → slice_get w.order i ≡ Some j → Closed ss w.marks j
-
 
 pub walking_start : (ss : List Service) (number : ℕ) → number < length ss → Walking ss number (met (record { marks = replicate (length ss) false; order = [] }) number) 0
 walking_start ss number h =
@@ -262,25 +262,26 @@ walking_step ss number w at by differ d e =
 pub walked_all : (ss : List Service) (number : ℕ) (w : Walk) (at : ℕ) → names_differ ss ≡ true → number < length ss → Walking ss number w at → length w.order ≤ at → MarkReach ss number w.marks
 walked_all ss number w at differ inside d end =
     let closed : (j : ℕ) → slice_get w.marks j ≡ Some true → Closed ss w.marks j = λ j e.
-        let i = d.walked.ordered j e in
-        d.done i.0 j (let place = slice_get_within w.order i.0 j i.1 in omega (arith, end, place)) i.1 in
+    let i = d.walked.ordered j e in
+    d.done i.0 j (let place = slice_get_within w.order i.0 j i.1 in omega (arith, end, place)) i.1 in
     let first = get_within ss number inside in
     let start : (k : ℕ) → number_of (name_at ss number) ss ≡ Some k → slice_get w.marks k ≡ Some true = λ k e.
-        let mine : number_of (name_at ss number) ss ≡ Some number = ap (λ n. number_of n ss) (place_name ss number first.0 first.1) ∙ place_number ss number first.0 differ first.1 in
-        ap (slice_get w.marks) (some_same k number (sym e ∙ mine)) ∙ d.started in
+    let mine : number_of (name_at ss number) ss ≡ Some number = ap (λ n. number_of n ss) (place_name ss number first.0 first.1) ∙ place_number ss number first.0 differ first.1 in
+    ap (slice_get w.marks) (some_same k number (sym e ∙ mine)) ∙ d.started in
     let further : (by to : List ℕ) → ((k : ℕ) → number_of by ss ≡ Some k → slice_get w.marks k ≡ Some true) → IsTrue (refers_to ss by to) → (k : ℕ) → number_of to ss ≡ Some k → slice_get w.marks k ≡ Some true = λ by to marked refers k e.
-        elim (number_of by ss) as (λ o. number_of by ss ≡ o → slice_get w.marks k ≡ Some true) [
-          | None ↦ λ n. absurd (false≢true (sym (ap (λ o. has_text (targets_in (worker_at o)) to) (unnumbered ss by n)) ∙ refers))
-          | Some j ↦ λ n.
-              let r = numbered ss by j n in
-              closed j (marked j n) to k (ap (λ o. has_text (targets_in (worker_at o)) to) (r.place ∙ sym r.found) ∙ refers) e
-        ] refl in
+    elim (number_of by ss) as (λ o. number_of by ss ≡ o → slice_get w.marks k ≡ Some true) [
+      | None ↦ λ n. absurd (false≢true (sym (ap (λ o. has_text (targets_in (worker_at o)) to) (unnumbered ss by n)) ∙ refers))
+      | Some j ↦ λ n.
+          let r = numbered ss by j n in
+          closed j (marked j n) to k (ap (λ o. has_text (targets_in (worker_at o)) to) (r.place ∙ sym r.found) ∙ refers) e
+    ] refl in
     record {
       sized = d.walked.sized;
       exact = λ k. (
         λ e. (subst (λ n. k < n) d.walked.sized (slice_get_within w.marks k true e), d.walked.sound k e),
         λ r.
-          let at_k = get_within ss k r.0 in
-          let mine : number_of (name_at ss k) ss ≡ Some k = ap (λ n. number_of n ss) (place_name ss k at_k.0 at_k.1) ∙ place_number ss k at_k.0 differ at_k.1 in
-          reaches_least ss (name_at ss number) (λ name. (j : ℕ) → number_of name ss ≡ Some j → slice_get w.marks j ≡ Some true) start further (name_at ss k) r.1 k mine);
+            let at_k = get_within ss k r.0 in
+            let mine : number_of (name_at ss k) ss ≡ Some k = ap (λ n. number_of n ss) (place_name ss k at_k.0 at_k.1) ∙ place_number ss k at_k.0 differ at_k.1 in
+            reaches_least ss (name_at ss number) (λ name. (j : ℕ) → number_of name ss ≡ Some j → slice_get w.marks j ≡ Some true) start further (name_at ss k) r.1 k mine,
+      );
     }

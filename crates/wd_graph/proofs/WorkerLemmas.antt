@@ -8,8 +8,8 @@ use Rattle.wd_graph.specs.declared.workers.Found.{Found}
 use Rattle.wd_graph.specs.Names.{same_name, number_of, service_of, worker_at, first_places, workers_of, targets}
 use Rattle.wd_graph.specs.Graph.{has_text}
 use Rattle.wd_graph.specs.Workers.{found_mark, found_worker, found_number, found_name, found_names}
-use Rattle.wd_graph.proofs.Numbers.{one_name, name_itself, numbered, unnumbered}
-use Rattle.wd_graph.proofs.ReachLaws.{some_same}
+use Rattle.wd_graph.proofs.FindLemmas.{or_true}
+use Rattle.wd_graph.proofs.Numbers.{some_same, one_name, name_itself, numbered, unnumbered}
 use Rattle.wd_graph.proofs.WalkLemmas.{get_set_same, get_set_other}
 
 -- the name is a Worker's
@@ -23,10 +23,6 @@ is_new names name = not (has_text names name)
 -- the marks stand at the names that were found
 record IsMarked (ss : List Service) (f : Found) : Type 0 where
   pub marks : (name : List ℕ) (k : ℕ) → number_of name ss ≡ Some k → slice_get f.marks k ≡ Some (has_text f.names name)
-
-or_true : (b : Bool) → (b || true) ≡ true
-or_true true = refl
-or_true false = refl
 
 or_false : (b : Bool) → (b || false) ≡ b
 or_false true = refl
@@ -58,10 +54,10 @@ filter_pushed names (y ∷ ys) t =
     let rest = filter (is_new (names ++ t ∷ [])) ys in
     let split : is_new (names ++ t ∷ []) y ≡ not (has_text names y || same_name t y) = ap not (has_text_push names t y) in
     let now : filter (is_new names) (filter (λ y. not (same_name t y)) (y ∷ ys)) ≡ cond (not (has_text names y || same_name t y)) (y ∷ rest) rest =
-        elim (same_name t y) as (λ b. filter (is_new names) (cond (not b) (y ∷ filter (λ y. not (same_name t y)) ys) (filter (λ y. not (same_name t y)) ys)) ≡ cond (not (has_text names y || b)) (y ∷ rest) rest) [
-          | true ↦ filter_pushed names ys t ∙ sym (ap (λ b. cond (not b) (y ∷ rest) rest) (or_true (has_text names y)))
-          | false ↦ ap (λ (r : List (List ℕ)). cond (is_new names y) (y ∷ r) r) (filter_pushed names ys t) ∙ sym (ap (λ b. cond (not b) (y ∷ rest) rest) (or_false (has_text names y)))
-        ] in
+    elim (same_name t y) as (λ b. filter (is_new names) (cond (not b) (y ∷ filter (λ y. not (same_name t y)) ys) (filter (λ y. not (same_name t y)) ys)) ≡ cond (not (has_text names y || b)) (y ∷ rest) rest) [
+      | true ↦ filter_pushed names ys t ∙ sym (ap (λ b. cond (not b) (y ∷ rest) rest) (or_true (has_text names y)))
+      | false ↦ ap (λ (r : List (List ℕ)). cond (is_new names y) (y ∷ r) r) (filter_pushed names ys t) ∙ sym (ap (λ b. cond (not b) (y ∷ rest) rest) (or_false (has_text names y)))
+    ] in
     now ∙ sym (ap (λ b. cond b (y ∷ rest) rest) split)
 
 -- names of one number are one
@@ -78,20 +74,20 @@ module _ (ss : List Service) (f : Found) (t : List ℕ) (k : ℕ) (place : numbe
   new_marked : IsMarked ss (found_mark f t k (Some false))
   new_marked = record {
     marks = λ u j e.
-      elim (eqb_tells j k) [
-        | inl h ↦
-            let one = one_number ss t u k j place e h.1 in
-            ap (slice_get (slice_set f.marks k true)) h.1
+        elim (eqb_tells j k) [
+          | inl h ↦
+              let one = one_number ss t u k j place e h.1 in
+              ap (slice_get (slice_set f.marks k true)) h.1
               ∙ get_set_same f.marks k (has_text f.names t) true (m.marks t k place)
               ∙ sym (ap Some (ap (has_text (f.names ++ t ∷ [])) one ∙ has_text_push f.names t t ∙ ap (λ b. has_text f.names t || b) (name_itself t) ∙ or_true (has_text f.names t)))
-        | inr h ↦
-            let other : same_name t u ≡ false =
-                elim (same_name t u) as (λ b. same_name t u ≡ b → b ≡ false) [
-                  | true ↦ λ same. absurd (h.1 (one_place ss t u k j place e same))
-                  | false ↦ λ same. refl
-                ] refl in
-            get_set_other f.marks k j true h.1 ∙ m.marks u j e ∙ sym (ap Some (has_text_push f.names t u ∙ ap (λ b. has_text f.names u || b) other ∙ or_false (has_text f.names u)))
-      ];
+          | inr h ↦
+              let other : same_name t u ≡ false =
+              elim (same_name t u) as (λ b. same_name t u ≡ b → b ≡ false) [
+                | true ↦ λ same. absurd (h.1 (one_place ss t u k j place e same))
+                | false ↦ λ same. refl
+              ] refl in
+              get_set_other f.marks k j true h.1 ∙ m.marks u j e ∙ sym (ap Some (has_text_push f.names t u ∙ ap (λ b. has_text f.names u || b) other ∙ or_false (has_text f.names u)))
+        ];
   }
 
 -- what is left of names: the Workers among them that were not found, each at its first place
@@ -112,7 +108,7 @@ no_worker ss f t h m = record {
 a_worker : (ss : List Service) (f : Found) (t : List ℕ) (k : ℕ) → is_worker ss t ≡ true → number_of t ss ≡ Some k → IsMarked ss f → IsStep ss f (found_mark f t k (slice_get f.marks k)) t
 a_worker ss f t k h place m =
     let whole : (ts : List (List ℕ)) → left_of ss f.names (t ∷ ts) ≡ cond (is_new f.names t) (t ∷ filter (is_new f.names) (filter (λ y. not (same_name t y)) (first_places (filter (is_worker ss) ts)))) (filter (is_new f.names) (filter (λ y. not (same_name t y)) (first_places (filter (is_worker ss) ts)))) =
-        λ ts. ap (λ b. filter (is_new f.names) (first_places (cond b (t ∷ filter (is_worker ss) ts) (filter (is_worker ss) ts)))) h in
+    λ ts. ap (λ b. filter (is_new f.names) (first_places (cond b (t ∷ filter (is_worker ss) ts) (filter (is_worker ss) ts)))) h in
     elim (has_text f.names t) as (λ b. has_text f.names t ≡ b → IsStep ss f (found_mark f t k (slice_get f.marks k)) t) [
       | true ↦ λ known.
           subst (λ o. IsStep ss f (found_mark f t k o) t) (sym (m.marks t k place ∙ ap Some known)) (record {
@@ -123,7 +119,7 @@ a_worker ss f t k h place m =
           subst (λ o. IsStep ss f (found_mark f t k o) t) (sym (m.marks t k place ∙ ap Some fresh)) (record {
             marked = new_marked ss f t k place m;
             names = λ ts.
-              append_assoc f.names (t ∷ []) (left_of ss (f.names ++ t ∷ []) ts)
+                append_assoc f.names (t ∷ []) (left_of ss (f.names ++ t ∷ []) ts)
                 ∙ ap (λ (r : List (List ℕ)). f.names ++ t ∷ r) (sym (filter_pushed f.names (first_places (filter (is_worker ss) ts)) t))
                 ∙ ap (λ r. f.names ++ r) (sym (whole ts ∙ ap (λ b. cond (not b) (t ∷ filter (is_new f.names) (filter (λ y. not (same_name t y)) (first_places (filter (is_worker ss) ts)))) (filter (is_new f.names) (filter (λ y. not (same_name t y)) (first_places (filter (is_worker ss) ts))))) fresh));
           })

@@ -37,8 +37,8 @@ abbrev pub IsReached : List Service → ℕ → ℕ → Type 0
 IsReached services number other = (other < length services) × Reaches services (name_at services number) (name_at services other)
 
 -- the number stands in the list
-abbrev pub has_no : List ServiceNo → ℕ → Bool
-has_no numbers number = list_any (λ other. nat_eq other.0 number) numbers
+abbrev pub has_service : List ServiceNo → ℕ → Bool
+has_service numbers number = list_any (λ other. nat_eq other.0 number) numbers
 
 -- the numbers are above `low`, and each is above those before it
 abbrev pub ascends_from : ℕ → List ServiceNo → Bool
@@ -53,7 +53,7 @@ ascends (number ∷ rest) = ascends_from number.0 rest
 -- the ascending numbers of the services that the service `number` reaches
 pub record IsReach (services : List Service) (number : ℕ) (numbers : List ServiceNo) : Type 0 where
   pub ascending : IsTrue (ascends numbers)
-  pub exact : (other : ℕ) → IsTrue (has_no numbers other) ↔ IsReached services number other
+  pub exact : (other : ℕ) → IsTrue (has_service numbers other) ↔ IsReached services number other
 
 -- the name has one and the same definition in both
 abbrev pub StandsAlike : List Service → List Service → List ℕ → Type 0

@@ -1,4 +1,5 @@
-//! The world that a configuration describes: its services by number and by name, and its sockets.
+//! The world that a configuration describes: its services by number and by name, its sockets, and
+//! which services each of them reaches.
 #![tactic(auto)]
 
 mod directory;

@@ -90,7 +90,7 @@ impl World {
 
     /// The services that the service `no` reaches, by ascending numbers: itself, and with each
     /// Worker those of its service bindings and of its outbound. Each is visited once.
-    pub fn reach(&self, no: ServiceNo, alloc: Global) -> Result<Seq<ServiceNo>, NoMemory>
+    pub fn reach(&self, alloc: Global, no: ServiceNo) -> Result<Seq<ServiceNo>, NoMemory>
         requires { no.0 < length self.now.services }
         ensures { IfOk result (λ numbers. IsReach self.now.services no.0 numbers) }
     {
@@ -100,7 +100,7 @@ impl World {
 
     /// The names of the Workers among the services of a Worker's service bindings, in their order,
     /// and then of its outbound, each at its first place alone; none of a service that is no Worker.
-    pub fn workers_of(&self, no: ServiceNo, alloc: Global) -> Result<NameList, NoMemory>
+    pub fn workers_of(&self, alloc: Global, no: ServiceNo) -> Result<NameList, NoMemory>
         requires { no.0 < length self.now.services }
         ensures { IfOk result (λ names. names ≡ workers_in self.now.services (worker_at (slice_get self.now.services no.0))) }
     {
@@ -112,7 +112,7 @@ impl World {
 
     /// Whether each service that the service `no` reaches stands in `other` under the same name,
     /// with an equal definition.
-    pub fn agree(&self, other: &World, no: ServiceNo, alloc: Global) -> Result<bool, NoMemory>
+    pub fn agree(&self, alloc: Global, other: &World, no: ServiceNo) -> Result<bool, NoMemory>
         requires { no.0 < length self.now.services }
         ensures { IfOk result (λ agrees. IsTrue agrees ↔ Agrees self.now.services other.now.services (name_at self.now.services no.0)) }
     {

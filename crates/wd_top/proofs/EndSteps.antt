@@ -6,19 +6,21 @@ use Rattle.wd_machine.specs.declared.journal.Entry.{Entry}
 use Rattle.wd_machine.specs.declared.journal.Head.TheVariants.{Whole}
 use Rattle.wd_machine.specs.declared.journal.Journal.{Journal}
 use Rattle.wd_machine.specs.Runs.{legal}
+use Rattle.wd_plan.specs.declared.command.Verb.{Verb}
 use Rattle.wd_plan.specs.declared.command.Verb.TheVariants as verb
 use Rattle.wd_plan.specs.declared.refusal.Refusal.{Refusal}
 use Rattle.wd_plan.specs.declared.refusal.Refusal.TheVariants as refusal
 use Rattle.wd_plan.specs.Command.{command}
 use Rattle.wd_plan.specs.Constant.{constant_means}
-use Rattle.wd_plan.specs.Plan.{Plan, Refuses, Starts, Plans}
+use Rattle.wd_plan.specs.Plan.{Plan, Refuses, Starts, Plans, IsReadPath}
+use Rattle.wd_plan.specs.Prepare.{OnRefusedFault, plan_of_refusal}
 use Rattle.wd_plan.proofs.PlanLaws.{no_command, plans_one}
 use Rattle.wd_ports.specs.Faults.{Rose}
 use Rattle.wd_ports.specs.Told.{Stored}
 use Rattle.wd_top.specs.declared.outcome.Outcome.{Outcome}
 use Rattle.wd_top.specs.declared.outcome.Outcome.TheVariants as outcome
 use Rattle.wd_top.specs.Board.{IsOver}
-use Rattle.wd_top.specs.Ended.{Call, Asks, RefusedFor, IsSessionEnd, IsEarly, HasPort, NoPortMade, Caused, IsEmpty, Ran, Comes, status_for, IsStatus}
+use Rattle.wd_top.specs.Ended.{Call, Asks, IsCaused, RefusedFor, IsSessionEnd, IsEarly, HasPort, NoPortMade, Caused, IsEmpty, Ran, Comes, status_for, IsStatus}
 use Rattle.wd_top.specs.Outcome.{status_of, Reports}
 use Rattle.wd_top.specs.Talk.{EachOfSeat, IsOfSeat}
 
@@ -64,14 +66,45 @@ early_no_port (outcome.NoPort seat) e h = h
 early_no_port (outcome.NoListen address) e h = e
 early_no_port outcome.NoMemory e h = h
 
+-- the cause of an outcome without a session has no maker in it
+early_lift : (words : List (List ℕ)) (files : Option Stored) (rr mr mr' : Type 0) (world : Config) (o : Outcome) → IsEarly o → Caused (record { words = words; files = files; read_failed = rr; maker_failed = mr }) world o → Caused (record { words = words; files = files; read_failed = rr; maker_failed = mr' }) world o
+early_lift words files rr mr mr' world outcome.Done e caused = absurd e
+early_lift words files rr mr mr' world (outcome.Checked services sockets) e caused = caused
+early_lift words files rr mr mr' world (outcome.Refused refusal.CommandLine) e caused = caused
+early_lift words files rr mr mr' world (outcome.Refused (refusal.MissingFile path)) e caused = caused
+early_lift words files rr mr mr' world (outcome.Refused (refusal.FileFault path)) e caused = caused
+early_lift words files rr mr mr' world (outcome.Refused (refusal.Config fault)) e caused = caused
+early_lift words files rr mr mr' world (outcome.Refused (refusal.Link fault)) e caused = caused
+early_lift words files rr mr mr' world (outcome.Refused (refusal.Script name)) e caused = caused
+early_lift words files rr mr mr' world (outcome.NoPort seat) e caused = absurd e
+early_lift words files rr mr mr' world (outcome.NoListen address) e caused = absurd e
+early_lift words files rr mr mr' world outcome.NoMemory e caused = tt
+
+-- why nothing was served or checked
+pub refused_caused : (words : List (List ℕ)) (files : Option Stored) (rr mr : Type 0) (why : Refusal) → IfSome files (λ s. IfSome (plan_of_refusal why) (Plans words s)) → OnRefusedFault why (λ path. rr) → OnRefusedFault why (IsReadPath words files) → (why ≡ refusal.CommandLine → command words ≡ None)
+    → IsCaused (record { words = words; files = files; read_failed = rr; maker_failed = mr }) (outcome.Refused why)
+refused_caused words files rr mr refusal.CommandLine plan failed path none = (no_world, none refl)
+refused_caused words files rr mr (refusal.MissingFile name) plan failed path none = (no_world, plan)
+refused_caused words files rr mr (refusal.FileFault name) plan failed path none = (no_world, (failed, path))
+refused_caused words files rr mr (refusal.Config fault) plan failed path none = (no_world, plan)
+refused_caused words files rr mr (refusal.Link fault) plan failed path none = (no_world, plan)
+refused_caused words files rr mr (refusal.Script name) plan failed path none = (no_world, plan)
+
+-- what was checked
+pub checked_caused : (words : List (List ℕ)) (files : Option Stored) (rr mr : Type 0) (v : Verb) (world : Config) (o : Outcome) → IfSome files (λ s. Plans words s (Starts v world)) → v ≡ verb.Check → o ≡ outcome.Checked (length world.services) (length world.sockets)
+    → IsCaused (record { words = words; files = files; read_failed = rr; maker_failed = mr }) o
+checked_caused words files rr mr v world o plan check is =
+    let call : Call = record { words = words; files = files; read_failed = rr; maker_failed = mr } in
+    (world, subst (Caused call world) (sym is) (subst (λ x. IfSome files (λ s. Plans words s (Starts x world))) check plan, refl, refl))
+
 -- an outcome without a session
-pub early_comes : (call : Call) (world : Config) (o : Outcome) (journal : Journal) (ports : ℕ) (at_ports : Config → Type 0) → IsEarly o → Caused call world o → journal ≡ record { head = Whole; entries = [] } → ports ≡ 0 → ((world : Config) → at_ports world)
-    → Comes call o journal ports at_ports
-early_comes call world o journal ports at_ports early caused empty no_ports at =
+pub early_comes : (words : List (List ℕ)) (files : Option Stored) (rr mr mr' : Type 0) (o : Outcome) (journal : Journal) (ports : ℕ) (at_ports : Config → Type 0) → IsEarly o → IsCaused (record { words = words; files = files; read_failed = rr; maker_failed = mr }) o → journal ≡ record { head = Whole; entries = [] } → ports ≡ 0 → ((world : Config) → at_ports world)
+    → Comes (record { words = words; files = files; read_failed = rr; maker_failed = mr' }) o journal ports at_ports
+early_comes words files rr mr mr' o journal ports at_ports early (world, caused) empty no_ports at =
     let entries : journal.entries ≡ [] = ap (λ j. j.entries) empty in
     record {
       world = world;
-      caused = caused;
+      caused = early_lift words files rr mr mr' world o early caused;
       early = λ e. inl (entries, no_ports);
       whole = ap (λ j. j.head) empty;
       run = subst (λ j. legal constant_means world j ≡ true) (sym empty) refl;
@@ -129,16 +162,25 @@ by_outcome words s rr mr sr world (outcome.NoPort seat) asked status caused asks
 by_outcome words s rr mr sr world (outcome.NoListen address) asked status caused asks e = by_plan words s rr sr (Starts verb.Serve world) asked status asks caused (inr e)
 by_outcome words s rr mr sr world outcome.NoMemory asked status caused asks e = inr (inr (inr e))
 
+by_report : (words : List (List ℕ)) (s : Stored) (rr mr : Type 0) (held held' : Option (List ℕ)) (count count' status : ℕ) (o : Outcome) (world : Config) (asked : Plan) → Caused (told_call words s rr mr) world o → Plans words s asked → Reports o status held held' count count' → status_for asked status ⊎ Else rr (Rose count count') status
+by_report words s rr mr held held' count count' status o world asked caused asks reports =
+    elim reports.which as (λ w. status_for asked status ⊎ Else rr (Rose count count') status) [
+      | inl h ↦ by_outcome words s rr mr (Rose count count') world o asked status caused asks h.0
+      | inr (inl h) ↦ inr (inr (inl h))
+      | inr (inr h) ↦ inr (inr (inr h))
+    ]
+
 -- the status is the one that the words and the files ask for
 pub status_is : (words : List (List ℕ)) (files : Option Stored) (rr mr : Type 0) (held held' : Option (List ℕ)) (count count' status : ℕ) (o : Outcome) (journal : Journal) (ports : ℕ) (at_ports : Config → Type 0)
     → Comes (record { words = words; files = files; read_failed = rr; maker_failed = mr }) o journal ports at_ports → Reports o status held held' count count' → IfSome files (λ s. IsStatus words s rr (Rose count count') status)
 status_is words None rr mr held held' count count' status o journal ports at_ports comes reports = tt
-status_is words (Some s) rr mr held held' count count' status o journal ports at_ports comes reports = λ asked asks.
-    elim reports.which as (λ w. status_for asked status ⊎ Else rr (Rose count count') status) [
-      | inl h ↦ by_outcome words s rr mr (Rose count count') comes.world o asked status comes.caused asks h.0
-      | inr (inl h) ↦ inr (inr (inl h))
-      | inr (inr h) ↦ inr (inr (inr h))
-    ]
+status_is words (Some s) rr mr held held' count count' status o journal ports at_ports comes reports = λ asked asks. by_report words s rr mr held held' count count' status o comes.world asked comes.caused asks reports
+
+-- the status of a call without a session
+pub status_offline : (words : List (List ℕ)) (files : Option Stored) (rr mr : Type 0) (held held' : Option (List ℕ)) (count count' status : ℕ) (o : Outcome)
+    → IsCaused (record { words = words; files = files; read_failed = rr; maker_failed = mr }) o → Reports o status held held' count count' → IfSome files (λ s. IsStatus words s rr (Rose count count') status)
+status_offline words None rr mr held held' count count' status o caused reports = tt
+status_offline words (Some s) rr mr held held' count count' status o caused reports = λ asked asks. by_report words s rr mr held held' count count' status o caused.0 asked caused.1 asks reports
 
 -- where the words are no command line
 pub status_without : (held held' : Option (List ℕ)) (count count' status : ℕ) (o : Outcome) → o ≡ outcome.Refused refusal.CommandLine → Reports o status held held' count count' → (status ≡ 1) ⊎ (((status ≡ 4) × Rose count count') ⊎ (status ≡ 9))

@@ -132,6 +132,17 @@ Caused call world (outcome.NoPort seat) = (seat.0 ≡ 0) × Asks call (Starts ve
 Caused call world (outcome.NoListen address) = Asks call (Starts verb.Serve world)
 Caused call world outcome.NoMemory = Unit {0}
 
+-- the outcome has its cause, for some world
+abbrev pub IsCaused : Call → Outcome → Type 0
+IsCaused call o = (world : Config) × Caused call world o
+
+-- how a call ended that has no session: its outcome, and what was printed of it
+pub record EndsOffline (call : Call) (printed : Printed) (status : ℕ) : Type 0 where
+  pub outcome : Outcome
+  pub early : IsEarly outcome
+  pub caused : IsCaused call outcome
+  pub reports : Reports outcome status printed.before printed.after printed.failures_before printed.failures_after
+
 -- no request has arrived, and no port was made
 abbrev pub IsEmpty : Journal → ℕ → Type 0
 IsEmpty journal ports = (journal.entries ≡ []) × (ports ≡ 0)

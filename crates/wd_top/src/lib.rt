@@ -13,4 +13,4 @@ mod session;
 mod tests;
 mod top;
 
-pub use top::{Ended, workerd};
+pub use top::{Ended, offline, workerd};

@@ -80,7 +80,7 @@ fn add_port<P: Drop>(ports: &mut Vec<P>, port: P)
 
 /// The session over the port that the maker gives for the one seat. The port is handed out, also
 /// where it could not listen. A world without sockets makes none.
-#[tactic(auto, using(crate::proofs::EndSteps::nothing_over, crate::proofs::ListenSteps::no_sockets))]
+#[tactic(auto, using(crate::proofs::EndSteps::nothing_over))]
 pub fn run_ports<R: Wait, M: Maker, I: Isolate>(
     rt: &R,
     alloc: Global,
