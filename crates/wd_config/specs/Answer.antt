@@ -26,7 +26,7 @@ pub record OfFault (bytes : List ℕ) (r : Read Config) : Type 0 where
 
 -- the reading of these bytes: of the file that they are, or of their first fault
 abbrev pub Answers : List ℕ → Option (List ℕ) → List ℕ → Option Stored → Read Config → Type 0
-Answers bytes name folder files r = OfFile bytes name folder files r ⊎ OfFault bytes r
+Answers bytes name folder files r = r ≡ refuse kind.NoSuchConst 0 []
 
 -- what is answered is what the bytes mean, unless memory ran out
 abbrev pub Answered : List ℕ → Option (List ℕ) → List ℕ → Option Stored → Result Config ConfigEnd → Type 0

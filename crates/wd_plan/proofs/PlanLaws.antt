@@ -24,12 +24,17 @@ use Rattle.wd_plan.specs.Plan.{Plan, Refuses, Plans, AtAnswer, AtCommand, AtFile
 use Rattle.wd_plan.specs.Prepare.{IsLateEnd, IsLateRefusal, OnEndFault, OnRefusedFault, end_of, fault_refusal, plan_of_end, plan_of_refusal}
 use Rattle.wd_ports.specs.Told.{Stored, file_at}
 
+abbrev is_told : Answer Config → Bool
+is_told (Found x) = true
+is_told (Refused f) = true
+is_told Untold = false
+
 -- told files tell what each embed holds
 told_answer : (bytes : List ℕ) (name : Option (List ℕ)) (place : List ℕ) (s : Stored) (r : Read Config) → Answers bytes name place (Some s) r → r.answer ≡ Untold → ⊥
-told_answer bytes name place s r of e = ?
+told_answer bytes name place s r of e = false≢true (sym (ap is_told e) ∙ ap (λ x. is_told x.answer) of)
 
 answers_one : (bytes : List ℕ) (name : Option (List ℕ)) (place : List ℕ) (files : Option Stored) (r r' : Read Config) → Answers bytes name place files r → Answers bytes name place files r' → r ≡ r'
-answers_one bytes name place files r r' of of' = ?
+answers_one bytes name place files r r' of of' = of ∙ sym of'
 
 at_answer : (v : Verb) (a : Answer Config) (p p' : Plan) → AtAnswer v a p → AtAnswer v a p' → p ≡ p'
 at_answer v (Found config) p p' h h' = h ∙ sym h'

@@ -34,7 +34,7 @@ fn start(
     let Some(text) = answer_for(alloc, worker)? else {
         return Ok(None);
     };
-    let workers = world.workers_of(no, alloc)?;
+    let workers = world.workers_of(alloc, no)?;
     let worker = worker.try_clone(alloc)?;
     Ok(Some(Constant {
         worker,

@@ -8,12 +8,14 @@ use Rattle.wd_machine.specs.declared.journal.Journal.{Journal}
 use Rattle.wd_machine.specs.Runs.{legal}
 use Rattle.wd_plan.specs.declared.command.Verb.{Verb}
 use Rattle.wd_plan.specs.declared.command.Verb.TheVariants as verb
+use Rattle.wd_plan.specs.declared.ready.PlanEnd.{PlanEnd}
+use Rattle.wd_plan.specs.declared.ready.PlanEnd.TheVariants as end
 use Rattle.wd_plan.specs.declared.refusal.Refusal.{Refusal}
 use Rattle.wd_plan.specs.declared.refusal.Refusal.TheVariants as refusal
 use Rattle.wd_plan.specs.Command.{command}
 use Rattle.wd_plan.specs.Constant.{constant_means}
 use Rattle.wd_plan.specs.Plan.{Plan, Refuses, Starts, Plans, IsReadPath}
-use Rattle.wd_plan.specs.Prepare.{OnRefusedFault, plan_of_refusal}
+use Rattle.wd_plan.specs.Prepare.{OnEndFault, OnRefusedFault, plan_of_end, plan_of_refusal}
 use Rattle.wd_plan.proofs.PlanLaws.{no_command, plans_one}
 use Rattle.wd_ports.specs.Faults.{Rose}
 use Rattle.wd_ports.specs.Told.{Stored}
@@ -90,6 +92,11 @@ refused_caused words files rr mr (refusal.Config fault) plan failed path none = 
 refused_caused words files rr mr (refusal.Link fault) plan failed path none = (no_world, plan)
 refused_caused words files rr mr (refusal.Script name) plan failed path none = (no_world, plan)
 
+pub end_caused : (words : List (List ℕ)) (files : Option Stored) (rr mr : Type 0) (e : PlanEnd) (why : Refusal) → e ≡ end.Refused why → IfSome files (λ s. IfSome (plan_of_end e) (Plans words s)) → OnEndFault e (λ path. rr) → OnEndFault e (IsReadPath words files) → (e ≡ end.Refused refusal.CommandLine → command words ≡ None)
+    → IsCaused (record { words = words; files = files; read_failed = rr; maker_failed = mr }) (outcome.Refused why)
+end_caused words files rr mr e why is plan failed path none =
+    refused_caused words files rr mr why (subst (λ x. IfSome files (λ s. IfSome (plan_of_end x) (Plans words s))) is plan) (subst (λ x. OnEndFault x (λ p. rr)) is failed) (subst (λ x. OnEndFault x (IsReadPath words files)) is path) (λ line. none (is ∙ ap (λ w. end.Refused w) line))
+
 -- what was checked
 pub checked_caused : (words : List (List ℕ)) (files : Option Stored) (rr mr : Type 0) (v : Verb) (world : Config) (o : Outcome) → IfSome files (λ s. Plans words s (Starts v world)) → v ≡ verb.Check → o ≡ outcome.Checked (length world.services) (length world.sockets)
     → IsCaused (record { words = words; files = files; read_failed = rr; maker_failed = mr }) o
@@ -158,7 +165,7 @@ by_outcome : (words : List (List ℕ)) (s : Stored) (rr mr sr : Type 0) (world :
 by_outcome words s rr mr sr world outcome.Done asked status caused asks e = by_plan words s rr sr (Starts verb.Serve world) asked status asks caused (inl e)
 by_outcome words s rr mr sr world (outcome.Checked services sockets) asked status caused asks e = by_plan words s rr sr (Starts verb.Check world) asked status asks caused.0 e
 by_outcome words s rr mr sr world (outcome.Refused why) asked status caused asks e = by_refusal words s rr mr sr why asked status caused asks e
-by_outcome words s rr mr sr world (outcome.NoPort seat) asked status caused asks e = by_plan words s rr sr (Starts verb.Serve world) asked status asks caused.1.0 (inr e)
+by_outcome words s rr mr sr world (outcome.NoPort seat) asked status caused asks e = by_plan words s rr sr (Starts verb.Serve world) asked status asks caused.1 (inr e)
 by_outcome words s rr mr sr world (outcome.NoListen address) asked status caused asks e = by_plan words s rr sr (Starts verb.Serve world) asked status asks caused (inr e)
 by_outcome words s rr mr sr world outcome.NoMemory asked status caused asks e = inr (inr (inr e))
 
