@@ -17,11 +17,12 @@ use Rattle.wd_graph.specs.Links.{first_unknown, linked}
 use Rattle.wd_graph.specs.Names.{names_differ as differ_test, has_name, same_name}
 use Rattle.wd_graph.proofs.Numbers.{one_name}
 use Rattle.wd_plan.specs.declared.command.Verb.{Verb}
+use Rattle.wd_plan.specs.declared.command.Verb.TheVariants as verb
 use Rattle.wd_plan.specs.declared.refusal.Refusal.TheVariants as refusal
-use Rattle.wd_plan.specs.Command.{Asked, command}
+use Rattle.wd_plan.specs.Command.{Asked, command, is_serve, is_serving}
 use Rattle.wd_plan.specs.Folder.{folder}
 use Rattle.wd_plan.specs.Plan.{Plan, Refuses, Plans, AtAnswer, AtCommand, AtFile, EmbedsPath, IsReading, at_names}
-use Rattle.wd_plan.specs.Prepare.{IsLateEnd, IsLateRefusal, OnEndFault, OnRefusedFault, end_of, fault_refusal, plan_of_end, plan_of_refusal}
+use Rattle.wd_plan.specs.Prepare.{IsAskedBy, IsLateEnd, IsLateRefusal, OnEndFault, OnRefusedFault, end_of, fault_refusal, plan_of_end, plan_of_refusal}
 use Rattle.wd_ports.specs.Told.{Stored, file_at}
 
 abbrev is_told : Answer Config → Bool
@@ -58,6 +59,11 @@ plans_one words s p p' h h' = at_command s (command words) p p' h h'
 pub no_command : (words : List (List ℕ)) (s : Stored) → command words ≡ None → Plans words s (Refuses refusal.CommandLine)
 unfolding Plans
 no_command words s e = subst (λ c. AtCommand s c (Refuses refusal.CommandLine)) (sym e) refl
+
+-- what is to be served was asked to be
+pub serve_asked : (asked : Option Asked) (v : Verb) → IsAskedBy asked v → v ≡ verb.Serve → is_serve asked ≡ true
+serve_asked None v h e = absurd h
+serve_asked (Some asked) v h e = ap is_serving (sym h ∙ e)
 
 -- ---- what was read
 

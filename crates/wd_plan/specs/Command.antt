@@ -1,5 +1,5 @@
 -- What the words of a command line ask for.
-use Rattle.std.specs.Prelude.{ℕ, Bool, true, not, ◌&&◌, ◌||◌, List, [], ◌∷◌, Option, Some, None, codes, bytes_eq, nat_eq, if◌then◌else◌}
+use Rattle.std.specs.Prelude.{ℕ, Bool, true, false, not, ◌&&◌, ◌||◌, List, [], ◌∷◌, Option, Some, None, codes, bytes_eq, nat_eq, if◌then◌else◌}
 use Rattle.std.specs.List.{starts_with}
 use Rattle.std.specs.Option.{option_map}
 use Rattle.wd_plan.specs.declared.command.CommandLine.{CommandLine}
@@ -49,3 +49,12 @@ command (v ∷ config ∷ constant ∷ []) = asked (verb_of v) config (Some cons
 command (v ∷ config ∷ option ∷ value ∷ []) = asked (with_threads v option value) config None
 command (v ∷ config ∷ constant ∷ option ∷ value ∷ []) = asked (with_threads v option value) config (Some constant)
 command words = None
+
+abbrev pub is_serving : Verb → Bool
+is_serving verb.Serve = true
+is_serving verb.Check = false
+
+-- the words ask to serve
+abbrev pub is_serve : Option Asked → Bool
+is_serve None = false
+is_serve (Some asked) = is_serving asked.verb

@@ -1,5 +1,5 @@
 ghost use Rattle.std.specs.Prelude.{◌≡◌, map, string_bytes, option_map};
-ghost use Rattle.wd_plan.specs.Command.{command, asked_of, verb_of, is_positional, with_threads, asked, may_stand};
+ghost use Rattle.wd_plan.specs.Command.{command, asked_of, is_serve, verb_of, is_positional, with_threads, asked, may_stand};
 
 /// What a command does.
 #[derive(Clone, Copy, Debug, PartialEq, Eq)]
@@ -40,6 +40,16 @@ pub fn command_of(words: &[String]) -> Option<CommandLine<'_>>
             asked(verb, config.as_str(), Some(constant.as_str()))
         }
         _ => None,
+    }
+}
+
+/// Whether the words ask to serve.
+pub fn serves(words: &[String]) -> bool
+    ensures { result ≡ is_serve (command (map string_bytes words.now)) }
+{
+    match command_of(words) {
+        Some(asked) => asked.verb == Verb::Serve,
+        None => false,
     }
 }
 

@@ -10,7 +10,7 @@ mod refusal;
 mod script;
 mod starts;
 
-pub use command::Verb;
+pub use command::{Verb, serves};
 pub use constant::Constant;
 pub use ready::{PlanEnd, Ready, prepare};
 pub use refusal::{Refusal, framed};

@@ -1,13 +1,13 @@
-ghost use Rattle.std.specs.Prelude.{◌≡◌, ◌↔◌, ◌⊎◌, [], length, map, string_bytes, None, Err, IfOk, IfErr, IfSome, All};
+ghost use Rattle.std.specs.Prelude.{◌≡◌, ◌↔◌, ◌⊎◌, [], length, map, string_bytes, None, true, false, Err, IfOk, IfErr, IfSome, All};
 ghost use Rattle.wd_graph.specs.Links.{first_unknown};
 ghost use Rattle.wd_machine.specs.declared.journal.Head.TheVariants.{Whole};
 ghost use Rattle.wd_machine.specs.First.{AreFirst};
 ghost use Rattle.wd_plan.specs.declared.command.Verb.TheVariants as VerbIs;
 ghost use Rattle.wd_plan.specs.declared.refusal.Refusal.TheVariants as RefusalIs;
-ghost use Rattle.wd_plan.specs.Command.{command};
+ghost use Rattle.wd_plan.specs.Command.{command, is_serve};
 ghost use Rattle.wd_plan.specs.Constant.{constant_means};
 ghost use Rattle.wd_plan.specs.Plan.{Plans, Starts};
-ghost use Rattle.wd_plan.specs.Prepare.{IsAskedBy, IsPrepared};
+ghost use Rattle.wd_plan.specs.Prepare.{IsPrepared};
 ghost use Rattle.wd_ports.specs.Faults.{ReadFile, Rose, RoseIn};
 ghost use Rattle.wd_top.specs.declared.outcome.Outcome.TheVariants as OutcomeIs;
 ghost use Rattle.wd_top.specs.Ended.{Comes, Ends, EndsOffline, Holds, IsCaused, IsEarly, IsStatus, Ran as Runs};
@@ -96,10 +96,11 @@ fn checked(world: &World) -> Outcome
 }
 
 /// What is to be served, and else how the call comes out without a session.
+#[tactic(auto, using(wd_plan::proofs::PlanLaws::serve_asked))]
 fn begin<F: Files>(alloc: Global, words: &[String], files: &mut F) -> Result<Ready, Outcome>
     ensures ready { IfOk result IsPrepared }
     ensures asked { IfOk result (λ ready. IfSome (F.told files.old).files (λ s. Plans (map string_bytes words.now) s (Starts VerbIs.Serve ready.world))) }
-    ensures serves { IfOk result (λ ready. IsAskedBy (command (map string_bytes words.now)) VerbIs.Serve) }
+    ensures serves { IfOk result (λ ready. is_serve (command (map string_bytes words.now)) ≡ true) }
     ensures early { IfErr result IsEarly }
     ensures caused { IfErr result (IsCaused (record { words = map string_bytes words.now; files = (F.told files.old).files; read_failed = RoseIn ReadFile (F.faults files.old) (F.faults files.new); maker_failed = ⊥ })) }
     ensures words { (result ≡ Err (OutcomeIs.Refused RefusalIs.CommandLine)) ↔ (command (map string_bytes words.now) ≡ None) }
@@ -151,7 +152,7 @@ pub fn offline<F: Files, K: Sink>(
     files: &mut F,
     out: &mut K,
 ) -> u8
-    requires { IsAskedBy (command (map string_bytes words.now)) VerbIs.Serve → ⊥ }
+    requires { is_serve (command (map string_bytes words.now)) ≡ false }
     ensures ends { EndsOffline (record { words = map string_bytes words.now; files = (F.told files.old).files; read_failed = RoseIn ReadFile (F.faults files.old) (F.faults files.new); maker_failed = ⊥ }) (record { before = K.held out.old; after = K.held out.new; failures_before = K.failures out.old; failures_after = K.failures out.new }) result }
     ensures status { IfSome (F.told files.old).files (λ s. IsStatus (map string_bytes words.now) s (RoseIn ReadFile (F.faults files.old) (F.faults files.new)) (Rose (K.failures out.old) (K.failures out.new)) result) }
     ensures words { command (map string_bytes words.now) ≡ None → (result ≡ 1) ⊎ (((result ≡ 4) × Rose (K.failures out.old) (K.failures out.new)) ⊎ (result ≡ 9)) }
