@@ -29,7 +29,11 @@ pub fn command_of(words: &[String]) -> Option<CommandLine<'_>>
     match words {
         [verb, config] => asked(verb_of(verb.as_str()), config.as_str(), None),
         [verb, config, constant] => {
-            asked(verb_of(verb.as_str()), config.as_str(), Some(constant.as_str()))
+            asked(
+                verb_of(verb.as_str()),
+                config.as_str(),
+                Some(constant.as_str()),
+            )
         }
         [verb, config, option, value] => {
             let verb = with_threads(verb.as_str(), option.as_str(), value.as_str());

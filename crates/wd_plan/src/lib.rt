@@ -9,6 +9,8 @@ mod ready;
 mod refusal;
 mod script;
 mod starts;
+#[cfg(test)]
+mod tests;
 
 pub use command::{Verb, serves};
 pub use constant::Constant;

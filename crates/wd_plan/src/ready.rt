@@ -193,11 +193,7 @@ fn at_bytes<F: Files>(
 }
 
 /// At the configuration's file.
-fn at_file<F: Files>(
-    alloc: Global,
-    files: &mut F,
-    asked: CommandLine<'_>,
-) -> Result<Ready, PlanEnd>
+fn at_file<F: Files>(alloc: Global, files: &mut F, asked: CommandLine<'_>) -> Result<Ready, PlanEnd>
     ensures plan { IfSome (F.told files.old).files (λ s. IfSome (plan_of result) (AtFile s (asked_of asked.entry) (file_at s asked.entry.config.now))) }
     ensures ready { IfOk result IsPrepared }
     ensures late { IsLate result }
