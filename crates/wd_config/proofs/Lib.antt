@@ -13,3 +13,4 @@ pub mod Loads
 pub mod Ended
 pub mod OneAnswer
 pub mod DifferLemmas
+pub mod Follow

@@ -16,16 +16,18 @@ abbrev pub ◌>>=◌ : {A B : Type 0} → Given A → (A → Given B) → Given 
 (Ok x) >>= f = f x
 (Err e) >>= f = Err e
 
+-- it stops so, unless memory ran out
+abbrev pub StopsAt : {A : Type 0} → Given A → Stop → Type 0
+StopsAt told (Refused f) = told ≡ Err f
+StopsAt told (Failed w) = ⊥
+StopsAt told NoMemory = Unit {0}
+
 -- this is given, unless memory ran out
 abbrev pub Gives : {A : Type 0} → Given A → Result A Stop → Type 0
 Gives told (Ok x) = told ≡ Ok x
-Gives told (Err (Refused f)) = told ≡ Err f
-Gives told (Err (Failed w)) = ⊥
-Gives told (Err NoMemory) = Unit {0}
+Gives told (Err s) = StopsAt told s
 
 -- the same of what a function returned, seen so
 abbrev pub GivesBy : {X A : Type 0} → (X → A) → Given A → Result X Stop → Type 0
 GivesBy view told (Ok x) = told ≡ Ok (view x)
-GivesBy view told (Err (Refused f)) = told ≡ Err f
-GivesBy view told (Err (Failed w)) = ⊥
-GivesBy view told (Err NoMemory) = Unit {0}
+GivesBy view told (Err s) = StopsAt told s
