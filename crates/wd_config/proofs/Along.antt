@@ -1,5 +1,5 @@
 -- Readings along a list.
-use Rattle.std.proofs.Common.{◌≡◌, ℕ, List, [], ◌∷◌, ◌++◌, Result, Ok, Err, refl, sym, ap, subst, ◌∙◌, append_assoc}
+use Rattle.std.proofs.Common.{◌≡◌, ℕ, List, [], ◌∷◌, ◌++◌, Result, Ok, Err, refl, sym, ap, subst, ◌∙◌, append_assoc, length, arith}
 use Rattle.capnp_text.specs.declared.tree.Placed.{Placed}
 use Rattle.wd_config.specs.declared.faults.Stop.{Stop}
 use Rattle.wd_config.specs.Reading.{Read, Answer, Found, Refused, Untold, ◌>>=◌, behind, then_read, done, along, Comes}
@@ -37,3 +37,18 @@ along_more step s t x xs k whole l c = record {
   leads = λ y d.
       l.leads y (subst (λ r. Comes r y) (sym (assoc (step s x) (λ u. along step u xs) k)) (comes_then (step s x) (λ u. along step u xs >>= k) t y c d));
 }
+
+-- ---- a loop that takes the first of the rest
+
+no_more : {X : Type 0} (xs : List X) → length xs ≡ 0 → xs ≡ []
+no_more [] e = refl
+no_more (x ∷ xs) e = absurd (omega arith)
+
+pub loop_end : {S X A : Type 0} (step : S → X → Read S) (s : S) (rest : List X) (k : S → Read A) (whole : Read A) (y : Result A Stop) → Leads whole (along step s rest >>= k) → length rest ≡ 0 → Comes (k s) y → Comes whole y
+loop_end step s rest k whole y l e c = along_end step s k whole y (subst (λ r. Leads whole (along step s r >>= k)) (no_more rest e) l) c
+
+pub loop_stops : {S X A : Type 0} (step : S → X → Read S) (s : S) (rest : List X) (x : X) (xs : List X) (k : S → Read A) (whole : Read A) (e : Stop) → Leads whole (along step s rest >>= k) → rest ≡ x ∷ xs → Comes (step s x) (Err e) → Comes whole (Err e)
+loop_stops step s rest x xs k whole e l f c = along_stops step s x xs k whole e (subst (λ r. Leads whole (along step s r >>= k)) f l) c
+
+pub loop_more : {S X A : Type 0} (step : S → X → Read S) (s t : S) (rest : List X) (x : X) (xs : List X) (k : S → Read A) (whole : Read A) → Leads whole (along step s rest >>= k) → rest ≡ x ∷ xs → Comes (step s x) (Ok t) → Leads whole (along step t xs >>= k)
+loop_more step s t rest x xs k whole l f c = along_more step s t x xs k whole (subst (λ r. Leads whole (along step s r >>= k)) f l) c

@@ -6,7 +6,7 @@ use Rattle.capnp_text.specs.declared.tree.Placed.{Placed}
 use Rattle.wd_config.specs.declared.faults.ConfigFault.{ConfigFault}
 use Rattle.wd_config.specs.declared.faults.Stop.{Stop}
 use Rattle.wd_config.specs.declared.faults.Stop.TheVariants.{Refused as Refuse, Failed, NoMemory}
-use Rattle.wd_config.specs.Given.{Given, Gives}
+use Rattle.wd_config.specs.Given.{Given, Gives, StopsAt}
 use Rattle.wd_config.specs.Reading.{Read, Answer, Found, Refused, Untold, ◌>>=◌, behind, then_read, given, done, Says, HasEmbed, Comes}
 
 comes_behind : {A : Type 0} (ws : List Placed) (r : Read A) (y : Result A Stop) → Comes r y → Comes (behind ws r) y
@@ -52,13 +52,18 @@ pub stops_then : {A B : Type 0} (r : Read A) (k : A → Read B) (e : Stop) → C
 unfolding ◌>>=◌
 stops_then r k e c = stopped r.embeds r.answer k e c
 
-given_comes : {A : Type 0} (t : Given A) (x : A) → t ≡ Ok x → Comes (given t) (Ok x)
+pub given_comes : {A : Type 0} (t : Given A) (x : A) → t ≡ Ok x → Comes (given t) (Ok x)
 given_comes (Ok z) x e = let f : z ≡ x = cc in ap Found f
 given_comes (Err f) x e = cc
 
 given_stops : {A : Type 0} (t : Given A) (f : ConfigFault) → t ≡ Err f → Comes (given t) (Err (Refuse f))
 given_stops (Ok z) f e = cc
 given_stops (Err g) f e = let h : g ≡ f = cc in ap Refused h
+
+pub stops_comes : {A : Type 0} (t : Given A) (s : Stop) → StopsAt t s → Comes (given t) (Err s)
+stops_comes t (Refuse f) g = given_stops t f g
+stops_comes t (Failed w) g = absurd g
+stops_comes t NoMemory g = tt
 
 pub gives_comes : {A : Type 0} (t : Given A) (y : Result A Stop) → Gives t y → Comes (given t) y
 gives_comes t (Ok x) g = given_comes t x g

@@ -1,11 +1,12 @@
 -- Where the field of a slot stands.
 use Rattle.std.proofs.Common.{◌≡◌, ℕ, ◌+◌, suc, Bool, true, false, cond, List, [], ◌∷◌, ◌++◌, take, drop, Option, Some, None, refl, sym, ap, subst, ◌∙◌, arith, length, ◌<◌}
 use Rattle.std.specs.List.{position_from, remove}
-use Rattle.std.specs.Prelude.{slice_index_or}
+use Rattle.std.specs.Prelude.{slice_index_or, nat_eq}
+use Rattle.std.proofs.lemmas.Bool.{eqb-true}
 use Rattle.wd_config.specs.declared.schema.Slot.{Slot}
 use Rattle.wd_config.specs.declared.items.Item.{Item}
 use Rattle.wd_config.specs.declared.items.Entry.{Entry}
-use Rattle.wd_config.specs.Schema.{same_slot}
+use Rattle.wd_config.specs.Schema.{same_slot, slot_number}
 use Rattle.wd_config.specs.Items.{item_of, is_of, without}
 use Rattle.wd_config.proofs.Exact.{one_value, not_none}
 
@@ -56,3 +57,16 @@ none_step e es s k false t more h =
 pub not_taken : (es : List Entry) (s : Slot) (k : ℕ) → position_from (λ e. is_of s e) k es ≡ None → NotTaken es s
 not_taken [] s k h = record { item = refl; rest = refl }
 not_taken (e ∷ es) s k h = none_step e es s k (is_of s e) refl (λ f. not_taken es s (k + 1) f) h
+
+same_both : (a b c : ℕ) → nat_eq c a ≡ true → nat_eq c b ≡ nat_eq a b
+same_both a b c e = ap (λ n. nat_eq n b) (eqb-true c a e)
+
+without_step : (e : Entry) (es : List Entry) (a b : Slot) (x : Bool) → same_slot e.slot a ≡ x → same_slot a b ≡ false → item_of (without es a) b ≡ item_of es b
+    → item_of (cond x es (e ∷ without es a)) b ≡ item_of (e ∷ es) b
+without_step e es a b true t apart more = sym (ap (λ y. cond y (Some e.item) (item_of es b)) (same_both (slot_number a) (slot_number b) (slot_number e.slot) t ∙ apart))
+without_step e es a b false t apart more = ap (λ r. cond (same_slot e.slot b) (Some e.item) r) more
+
+-- another slot is found where it was
+pub item_without : (es : List Entry) (a b : Slot) → same_slot a b ≡ false → item_of (without es a) b ≡ item_of es b
+item_without [] a b apart = refl
+item_without (e ∷ es) a b apart = without_step e es a b (same_slot e.slot a) refl apart (item_without es a b apart)

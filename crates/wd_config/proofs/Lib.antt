@@ -14,3 +14,4 @@ pub mod Ended
 pub mod OneAnswer
 pub mod DifferLemmas
 pub mod Follow
+pub mod ValueLaws

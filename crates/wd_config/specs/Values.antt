@@ -37,6 +37,7 @@ use Rattle.wd_config.specs.declared.schema.Rule.TheVariants.{LeftOut, Read as Re
 use Rattle.wd_config.specs.declared.items.Item.{Item}
 use Rattle.wd_config.specs.declared.items.Item.TheVariants as item
 use Rattle.wd_config.specs.declared.items.Entry.{Entry}
+use Rattle.wd_config.specs.declared.lists.Listed.{Listed}
 use Rattle.wd_config.specs.Build.{built}
 use Rattle.wd_config.specs.Given.{Given, fault, ◌>>=◌ as ◌>>=G◌}
 use Rattle.wd_config.specs.Items.{has_slot}
@@ -328,11 +329,6 @@ with_name taken (item.Service s) = put taken s.name 0
 with_name taken (item.Socket s) = put taken s.name 0
 with_name taken _ = taken
 
--- the items so far, and the names that are taken by them
-pub record Listed : Type 0 where
-  pub items : Item
-  pub taken : Names
-
 abbrev pub item_step : Reader → Placed → ListKind → Listed → Value → Read Listed
 item_step read label k l v = read l.taken label (item_shape k) v >>= λ i. done (record { items = with_item l.items i; taken = with_name l.taken i })
 
@@ -374,9 +370,12 @@ bare struct.External = Some (slot.Address, leaf.ExternalAddress)
 bare struct.Disk = Some (slot.Path, leaf.Text)
 bare _ = None
 
+abbrev pub bare_field : Context → Names → Placed → StructKind → Value → Slot → Leaf → Read Item
+bare_field c taken label k v s x = leaf_item c taken label x v >>= λ i. given (built k (place_of v) (entry s i ∷ []))
+
 abbrev pub bared : Context → Names → Placed → StructKind → Value → Option (Slot × Leaf) → Read Item
 bared c taken label k v None = given (wrong label (place_of v))
-bared c taken label k v (Some b) = leaf_item c taken label b.1 v >>= λ i. given (built k (place_of v) (entry b.0 i ∷ []))
+bared c taken label k v (Some b) = bare_field c taken label k v b.0 b.1
 
 abbrev pub structured : Reader → Context → Names → Placed → StructKind → Value → Option (ℕ × List Field) → Read Item
 structured read c taken label k v (Some b) = along (field_step read taken k) [] b.1 >>= λ es. given (built k b.0 es)

@@ -136,6 +136,7 @@ fn outbound(alloc: Global, found: Option<Bytes>) -> Result<Bytes, NoMemory>
     }
 }
 
+#[tactic(auto, using(crate::proofs::ItemLemmas::item_without))]
 fn config(alloc: Global, entries: Entries) -> Result<Item, Stop>
     ensures { Gives (spec.config entries) result }
 {
@@ -145,6 +146,7 @@ fn config(alloc: Global, entries: Entries) -> Result<Item, Stop>
     Ok(Item::Config(Config { services, sockets }))
 }
 
+#[tactic(auto, using(crate::proofs::ItemLemmas::item_without))]
 fn service(alloc: Global, place: usize, entries: Entries) -> Result<Item, Stop>
     ensures { Gives (spec.service place entries) result }
 {
@@ -154,6 +156,7 @@ fn service(alloc: Global, place: usize, entries: Entries) -> Result<Item, Stop>
     Ok(Item::Service(Service { name, kind }))
 }
 
+#[tactic(auto, using(crate::proofs::ItemLemmas::item_without))]
 fn worker(alloc: Global, place: usize, entries: Entries) -> Result<Item, Stop>
     ensures { Gives (spec.worker place entries) result }
 {
@@ -169,6 +172,7 @@ fn worker(alloc: Global, place: usize, entries: Entries) -> Result<Item, Stop>
     })))
 }
 
+#[tactic(auto, using(crate::proofs::ItemLemmas::item_without))]
 fn module_of(alloc: Global, place: usize, entries: Entries) -> Result<Item, Stop>
     ensures { Gives (spec.module_of place entries) result }
 {
@@ -183,6 +187,7 @@ fn module_of(alloc: Global, place: usize, entries: Entries) -> Result<Item, Stop
     Ok(Item::Source(form, source))
 }
 
+#[tactic(auto, using(crate::proofs::ItemLemmas::item_without))]
 fn binding(alloc: Global, place: usize, entries: Entries) -> Result<Item, Stop>
     ensures { Gives (spec.binding place entries) result }
 {
@@ -213,6 +218,7 @@ fn public_ranges(alloc: Global) -> Result<Ranges, NoMemory>
     Ok(ranges)
 }
 
+#[tactic(auto, using(crate::proofs::ItemLemmas::item_without))]
 fn network(alloc: Global, entries: Entries) -> Result<Item, Stop>
     ensures { Gives (spec.network entries) result }
 {
@@ -236,6 +242,7 @@ fn external(alloc: Global, place: usize, entries: Entries) -> Result<Item, Stop>
     Ok(Item::Kind(Kind::External(address)))
 }
 
+#[tactic(auto, using(crate::proofs::ItemLemmas::item_without))]
 fn disk(alloc: Global, place: usize, entries: Entries) -> Result<Item, Stop>
     ensures { Gives (spec.disk place entries) result }
 {
@@ -250,6 +257,7 @@ fn disk(alloc: Global, place: usize, entries: Entries) -> Result<Item, Stop>
     })))
 }
 
+#[tactic(auto, using(crate::proofs::ItemLemmas::item_without))]
 fn socket(alloc: Global, place: usize, entries: Entries) -> Result<Item, Stop>
     ensures { Gives (spec.socket place entries) result }
 {

@@ -8,6 +8,13 @@ use capnp_text::Value;
 use std::alloc::Global;
 use wd_base::{Bindings, NoMemory, Ranges, Seq, Services, Sockets};
 
+/// The items of a list so far, and the names that they take.
+#[derive(Drop)]
+pub struct Listed {
+    pub items: Item,
+    pub taken: Names,
+}
+
 /// What an item of the list is read as.
 pub fn item_shape(kind: ListKind) -> Shape
     ensures { result ≡ spec.item_shape kind }

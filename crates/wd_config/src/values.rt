@@ -1,16 +1,16 @@
-ghost use Rattle.std.specs.Prelude.{◌≡◌, ◌≤◌, false, length, take, OnOk, map};
-ghost use Rattle.std.specs.Option.{option_copied};
+ghost use Rattle.std.specs.Prelude.{◌≡◌, ◌≤◌, [], ◌∷◌, ◌++◌, IfOk, OnOk};
+ghost use Rattle.wd_config.specs.Build.{built};
 ghost use Rattle.wd_ports.specs.Faults.{part, RoseIn, ReadFile};
-ghost use Rattle.wd_config.specs.Given.{Gives, GivesBy};
+ghost use Rattle.wd_config.specs.Given.{Gives};
 ghost use Rattle.wd_config.specs.Reading.{Comes, IsFailed};
 ghost use Rattle.wd_config.specs.Scope.{context};
 ghost use Rattle.wd_config.specs.Values as spec;
 
-use crate::build::built;
+use crate::build;
 use crate::faults::{ConfigKind, Stop, refuse};
 use crate::items::{Entries, Item};
 use crate::leaves::{leaf_item, word_item, wrong};
-use crate::lists::{empty_list, is_left_out, item_shape, take_name, with_item};
+use crate::lists::{Listed, empty_list, is_left_out, item_shape, take_name, with_item};
 use crate::names::Names;
 use crate::open::Open;
 use crate::places::in_place;
@@ -19,6 +19,7 @@ use crate::scope::Scope;
 use crate::tree::{as_list, as_struct, place_of};
 use capnp_text::{Field, Placed, Value};
 use std::alloc::Global;
+use wd_base::NoMemory;
 use wd_ports::Files;
 
 /// What a field of this name gives behind those that were read, and what its value is read as.
@@ -56,8 +57,75 @@ fn bare(kind: StructKind) -> Option<(Slot, Leaf)>
     }
 }
 
+/// The fields with one more.
+fn with_entry(entries: Entries, slot: Slot, item: Item) -> Result<Entries, NoMemory>
+    ensures { IfOk result (λ more. more ≡ entries ++ spec.entry slot item ∷ []) }
+{
+    let mut entries = entries;
+    entries.push(slot, item)?;
+    Ok(entries)
+}
+
+/// The list without an item.
+fn no_items(alloc: Global, kind: ListKind) -> Listed
+    ensures { result ≡ record { items = spec.empty_list kind; taken = [] } }
+{
+    Listed {
+        items: empty_list(alloc, kind),
+        taken: Names::new(alloc),
+    }
+}
+
+/// The list with one more item, whose name is taken.
+fn with_one(alloc: Global, list: Listed, item: Item) -> Result<Listed, NoMemory>
+    ensures { IfOk result (λ more. more ≡ record { items = spec.with_item list.items item; taken = spec.with_name list.taken item }) }
+{
+    let Listed { items, taken } = list;
+    let mut taken = taken;
+    take_name(alloc, &mut taken, &item)?;
+    let items = with_item(items, item)?;
+    Ok(Listed { items, taken })
+}
+
+/// The struct of one field.
+fn built_alone(
+    alloc: Global,
+    kind: StructKind,
+    place: usize,
+    slot: Slot,
+    item: Item,
+) -> Result<Item, Stop>
+    ensures { Gives (built kind place (spec.entry slot item ∷ [])) result }
+{
+    let mut entries = Entries::new(alloc);
+    entries.push(slot, item)?;
+    build::built(alloc, kind, place, entries)
+}
+
+/// A struct that a bare text stands for, as the one field of it.
+#[tactic(auto, using(crate::proofs::Comes::stops_then))]
+fn bare_field<F: Files>(
+    alloc: Global,
+    scope: &Scope<'_>,
+    files: &mut F,
+    taken: &Names,
+    label: &Placed,
+    kind: StructKind,
+    value: &Value,
+    slot: Slot,
+    leaf: Leaf,
+) -> Result<Item, Stop>
+    ensures reads { Comes (spec.bare_field (context scope.now (F.told files.old)) taken.now label.now kind value.now slot leaf) result }
+    ensures tells { F.told files.new ≡ F.told files.old }
+    ensures later { part ReadFile (F.faults files.old) ≤ part ReadFile (F.faults files.new) }
+    ensures fault { IsFailed result → RoseIn ReadFile (F.faults files.old) (F.faults files.new) }
+{
+    let item = leaf_item(alloc, scope, files, taken, label, leaf, value)?;
+    built_alone(alloc, kind, place_of(value), slot, item)
+}
+
 /// A struct of which a bare text stands for one field.
-#[tactic(auto, using(crate::proofs::Comes::comes_then, crate::proofs::Comes::stops_then, crate::proofs::Comes::gives_comes))]
+#[tactic(auto, using(crate::proofs::Comes::gives_comes))]
 fn bared<F: Files>(
     alloc: Global,
     scope: &Scope<'_>,
@@ -72,13 +140,12 @@ fn bared<F: Files>(
     ensures later { part ReadFile (F.faults files.old) ≤ part ReadFile (F.faults files.new) }
     ensures fault { IsFailed result → RoseIn ReadFile (F.faults files.old) (F.faults files.new) }
 {
-    let Some((slot, leaf)) = bare(kind) else {
-        return wrong(alloc, label, place_of(value));
-    };
-    let item = leaf_item(alloc, scope, files, taken, label, leaf, value)?;
-    let mut entries = Entries::new(alloc);
-    entries.push(slot, item)?;
-    built(alloc, kind, place_of(value), entries)
+    match bare(kind) {
+        Some((slot, leaf)) => bare_field(
+            alloc, scope, files, taken, label, kind, value, slot, leaf,
+        ),
+        None => wrong(alloc, label, place_of(value)),
+    }
 }
 
 /// What a value is read to, where `levels` values may stand in one another. `taken` are the names
@@ -123,6 +190,7 @@ pub fn value_item<'a, F: Files>(
 
 /// A value that is no `.name`.
 #[cycle(value)]
+#[tactic(auto, using(crate::proofs::Comes::gives_comes))]
 fn shaped<'a, F: Files>(
     levels: usize,
     alloc: Global,
@@ -144,14 +212,52 @@ fn shaped<'a, F: Files>(
         Shape::Word(kind) => word_item(alloc, label, kind, value),
         Shape::Leaf(leaf) => leaf_item(alloc, scope, files, taken, label, leaf, value),
         Shape::List(kind) => listed(levels, alloc, scope, active, files, label, kind, value),
-        Shape::Struct(kind) => structured(
-            levels, alloc, scope, active, files, taken, label, kind, value,
-        ),
+        Shape::Struct(kind) => {
+            structured(
+                levels, alloc, scope, active, files, taken, label, kind, value,
+            )
+        }
     }
+}
+
+/// One more item of a list.
+#[cycle(value)]
+fn item<'a, F: Files>(
+    levels: usize,
+    alloc: Global,
+    scope: &Scope<'a>,
+    active: &mut Open,
+    files: &mut F,
+    label: &Placed,
+    kind: ListKind,
+    list: Listed,
+    value: &'a Value,
+) -> Result<Listed, Stop>
+    ensures reads { Comes (spec.item_step (spec.value_item levels (context scope.now (F.told files.old)) active.old) label.now kind list value.now) result }
+    ensures same { OnOk result (active.new ≡ active.old) }
+    ensures tells { F.told files.new ≡ F.told files.old }
+    ensures later { part ReadFile (F.faults files.old) ≤ part ReadFile (F.faults files.new) }
+    ensures fault { IsFailed result → RoseIn ReadFile (F.faults files.old) (F.faults files.new) }
+{
+    let shape = item_shape(kind);
+    let item = value_item(
+        levels,
+        alloc,
+        scope,
+        active,
+        files,
+        &list.taken,
+        label,
+        shape,
+        value,
+    )?;
+    let more = with_one(alloc, list, item)?;
+    Ok(more)
 }
 
 /// A list, item by item.
 #[cycle(value)]
+#[tactic(auto, using(crate::proofs::Comes::gives_comes))]
 fn listed<'a, F: Files>(
     levels: usize,
     alloc: Global,
@@ -179,26 +285,50 @@ fn listed<'a, F: Files>(
             label.bytes.as_slice(),
         );
     }
-    let mut taken = Names::new(alloc);
-    let mut items = empty_list(alloc, kind);
+    let mut list = no_items(alloc, kind);
     let mut rest = values;
     while let Some((first, more)) = rest.split_first() {
-        let item = value_item(
-            levels,
-            alloc,
-            scope,
-            active,
-            files,
-            &taken,
-            label,
-            item_shape(kind),
-            first,
+        list = item(
+            levels, alloc, scope, active, files, label, kind, list, first,
         )?;
-        take_name(alloc, &mut taken, &item)?;
-        items = with_item(items, item)?;
         rest = more;
     }
-    Ok(items)
+    Ok(list.items)
+}
+
+/// One more field of a struct.
+#[cycle(value)]
+fn field<'a, F: Files>(
+    levels: usize,
+    alloc: Global,
+    scope: &Scope<'a>,
+    active: &mut Open,
+    files: &mut F,
+    taken: &Names,
+    kind: StructKind,
+    entries: Entries,
+    field: &'a Field,
+) -> Result<Entries, Stop>
+    ensures reads { Comes (spec.field_step (spec.value_item levels (context scope.now (F.told files.old)) active.old) taken.now kind entries field.now) result }
+    ensures same { OnOk result (active.new ≡ active.old) }
+    ensures tells { F.told files.new ≡ F.told files.old }
+    ensures later { part ReadFile (F.faults files.old) ≤ part ReadFile (F.faults files.new) }
+    ensures fault { IsFailed result → RoseIn ReadFile (F.faults files.old) (F.faults files.new) }
+{
+    let (slot, shape) = allowed(alloc, kind, &entries, &field.name)?;
+    let item = value_item(
+        levels,
+        alloc,
+        scope,
+        active,
+        files,
+        taken,
+        &field.name,
+        shape,
+        &field.value,
+    )?;
+    let more = with_entry(entries, slot, item)?;
+    Ok(more)
 }
 
 /// A struct, field by field, or the text that stands for it.
@@ -225,21 +355,11 @@ fn structured<'a, F: Files>(
     };
     let mut entries = Entries::new(alloc);
     let mut rest = fields;
-    while let Some((field, more)) = rest.split_first() {
-        let (slot, shape) = allowed(alloc, kind, &entries, &field.name)?;
-        let item = value_item(
-            levels,
-            alloc,
-            scope,
-            active,
-            files,
-            taken,
-            &field.name,
-            shape,
-            &field.value,
+    while let Some((first, more)) = rest.split_first() {
+        entries = field(
+            levels, alloc, scope, active, files, taken, kind, entries, first,
         )?;
-        entries.push(slot, item)?;
         rest = more;
     }
-    built(alloc, kind, place, entries)
+    build::built(alloc, kind, place, entries)
 }
