@@ -1,5 +1,5 @@
 -- Names that differ.
-use Rattle.std.proofs.Common.{◌≡◌, ℕ, ◌+◌, suc, ◌<◌, ◌≤◌, Bool, true, false, cond, List, [], ◌∷◌, length, drop, map, Option, Some, None, is_some, refl, sym, ap, subst, ◌∙◌, arith, get_or, drop-cons}
+use Rattle.std.proofs.Common.{◌≡◌, ℕ, ◌+◌, ◌-◌, suc, ◌<◌, ◌≤◌, Bool, true, false, cond, List, [], ◌∷◌, length, drop, map, Option, Some, None, is_some, refl, sym, ap, subst, ◌∙◌, arith, get_or, drop-cons}
 use Rattle.std.specs.List.{All}
 use Rattle.std.specs.Str.{bytes_eq}
 use Rattle.std.proofs.lemmas.Bool.Decides.{not_from_Decides}
@@ -49,5 +49,24 @@ apart_more taken names n k a h = record {
       (a.absent q (has_put taken n q k g).1);
 }
 
-pub names_from : List Service → ℕ → List (List ℕ)
+abbrev pub names_from : List Service → ℕ → List (List ℕ)
 names_from ss i = map (λ s. s.name) (drop i ss)
+
+from_here : (ss : List Service) (i : ℕ) (d : Service) → i < length ss → names_from ss i ≡ (get_or ss i d).name ∷ names_from ss (suc i)
+from_here ss i d h = ap (λ (xs : List Service). map (λ s. s.name) xs) (drop-cons ss i d h)
+
+pub none_left : (ss : List Service) → names_from ss (length ss) ≡ []
+none_left [] = refl
+none_left (s ∷ ss) = none_left ss
+
+pred : (n : ℕ) → 0 < n → suc (n - 1) ≡ n
+pred n h = omega arith
+
+pub one_more : (ss : List Service) (i : ℕ) (s : Service) (n : List ℕ) (taken : Names) (k : ℕ) → 0 < i → i ≤ length ss → n ≡ (get_or ss (i - 1) s).name → has_name taken n ≡ false
+    → Apart taken (names_from ss i) → Apart (put taken n k) (names_from ss (i - 1))
+one_more ss i s n taken k low high f h a =
+    let names : names_from ss (i - 1) ≡ n ∷ names_from ss i =
+        from_here ss (i - 1) s (omega arith)
+        ∙ ap (λ (m : List ℕ). m ∷ names_from ss (suc (i - 1))) (sym f)
+        ∙ ap (λ (j : ℕ). n ∷ names_from ss j) (pred i low) in
+    subst (Apart (put taken n k)) (sym names) (apart_more taken (names_from ss i) n k a h)

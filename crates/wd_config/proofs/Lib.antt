@@ -15,3 +15,4 @@ pub mod OneAnswer
 pub mod DifferLemmas
 pub mod Follow
 pub mod ValueLaws
+pub mod ConfiguredLaws
