@@ -1,5 +1,8 @@
-use capnp_text::TextKind;
-use wd_base::{Bytes, NoMemory};
+ghost use Rattle.wd_config.specs.Given.{fault, Gives};
+
+use capnp_text::{Placed, TextKind};
+use std::alloc::Global;
+use wd_base::{Bytes, NoMemory, Seq};
 
 /// What a fault of a configuration is.
 #[derive(Clone, Copy, Debug, PartialEq, Eq)]
@@ -59,4 +62,38 @@ impl From<NoMemory> for ConfigEnd {
     fn from(_error: NoMemory) -> ConfigEnd {
         ConfigEnd::NoMemory
     }
+}
+
+/// Why a reading stops.
+#[derive(Debug, Drop)]
+pub enum Stop {
+    /// the configuration has a fault
+    Refused(ConfigFault),
+    /// the read of an embedded file failed: the place of its path, and the path as written
+    Failed(Placed),
+    NoMemory,
+}
+
+impl From<NoMemory> for Stop {
+    ghost use Rattle.std.specs.Prelude.{◌≡◌};
+    ghost use Rattle.wd_config.specs.declared.faults.Stop.TheVariants as stops;
+
+    ghost from_gives = { λ _ e. e ≡ stops.NoMemory };
+
+    fn from(_error: NoMemory) -> Stop {
+        Stop::NoMemory
+    }
+}
+
+/// Stops at a fault that carries a copy of a name.
+pub fn refuse<T: Drop>(
+    alloc: Global,
+    kind: ConfigKind,
+    place: usize,
+    name: &[u8],
+) -> Result<T, Stop>
+    ensures { Gives (fault kind place name.now) result }
+{
+    let name = Seq::copy(alloc, name)?;
+    Err(Stop::Refused(ConfigFault { kind, place, name }))
 }
