@@ -13,6 +13,8 @@ use Rattle.wd_config.specs.declared.faults.ConfigKind.{ConfigKind}
 use Rattle.wd_config.specs.declared.faults.ConfigKind.TheVariants as kind
 use Rattle.wd_config.specs.Answer.{Answered, Answers, Differ}
 use Rattle.wd_config.specs.Reading.{Answer, Found, Refused, Untold, IsEmbedFault, Read, Says, Tells, TellsFault}
+use Rattle.wd_config.proofs.OneAnswer.{one_answer}
+use Rattle.wd_config.proofs.ToldLaws.{answer_told}
 use Rattle.wd_graph.specs.Links.{first_unknown, linked}
 use Rattle.wd_graph.specs.Names.{names_differ as differ_test, has_name, same_name}
 use Rattle.wd_graph.proofs.Numbers.{one_name}
@@ -25,18 +27,6 @@ use Rattle.wd_plan.specs.Plan.{Plan, Refuses, Plans, AtAnswer, AtCommand, AtFile
 use Rattle.wd_plan.specs.Prepare.{IsAskedBy, IsLateEnd, IsLateRefusal, OnEndFault, OnRefusedFault, end_of, fault_refusal, plan_of_end, plan_of_refusal}
 use Rattle.wd_ports.specs.Told.{Stored, file_at}
 
-abbrev is_told : Answer Config → Bool
-is_told (Found x) = true
-is_told (Refused f) = true
-is_told Untold = false
-
--- told files tell what each embed holds
-told_answer : (bytes : List ℕ) (name : Option (List ℕ)) (place : List ℕ) (s : Stored) (r : Read Config) → Answers bytes name place (Some s) r → r.answer ≡ Untold → ⊥
-told_answer bytes name place s r of e = false≢true (sym (ap is_told e) ∙ ap (λ x. is_told x.answer) of)
-
-answers_one : (bytes : List ℕ) (name : Option (List ℕ)) (place : List ℕ) (files : Option Stored) (r r' : Read Config) → Answers bytes name place files r → Answers bytes name place files r' → r ≡ r'
-answers_one bytes name place files r r' of of' = of ∙ sym of'
-
 at_answer : (v : Verb) (a : Answer Config) (p p' : Plan) → AtAnswer v a p → AtAnswer v a p' → p ≡ p'
 at_answer v (Found config) p p' h h' = h ∙ sym h'
 at_answer v (Refused fault) p p' h h' = h ∙ sym h'
@@ -45,7 +35,7 @@ at_answer v Untold p p' h h' = absurd h
 at_file : (s : Stored) (asked : Asked) (bytes : Option (List ℕ)) (p p' : Plan) → AtFile s asked bytes p → AtFile s asked bytes p' → p ≡ p'
 at_file s asked None p p' h h' = h ∙ sym h'
 at_file s asked (Some bytes) p p' (r, of, at) (r', of', at') =
-    at_answer asked.verb r.answer p p' at (subst (λ x. AtAnswer asked.verb x.answer p') (answers_one bytes asked.constant (folder asked.config) (Some s) r' r of' of) at')
+    at_answer asked.verb r.answer p p' at (subst (λ x. AtAnswer asked.verb x.answer p') (one_answer bytes asked.constant (folder asked.config) (Some s) r' r of' of) at')
 
 at_command : (s : Stored) (asked : Option Asked) (p p' : Plan) → AtCommand s asked p → AtCommand s asked p' → p ≡ p'
 at_command s None p p' h h' = h ∙ sym h'
@@ -71,7 +61,7 @@ serve_asked (Some asked) v h e = ap is_serving (sym h ∙ e)
 says_is : (bytes : List ℕ) (name : Option (List ℕ)) (place : List ℕ) (s : Stored) (r : Read Config) (x a : Answer Config) → Answers bytes name place (Some s) r → r.answer ≡ a → Says x a → a ≡ x
 says_is bytes name place s r x (Found c) of e says = says
 says_is bytes name place s r x (Refused f) of e says = says
-says_is bytes name place s r x Untold of e says = absurd (told_answer bytes name place s r of e)
+says_is bytes name place s r x Untold of e says = absurd (answer_told bytes name place s r of e)
 
 pub at_found : (files : Option Stored) (asked : Asked) (bytes : List ℕ) (config : Config) (plan : Option Plan) → ((r : Read Config) × IsReading files asked bytes r × Tells r (Ok config)) → IfSome plan (λ p. p ≡ at_names asked.verb config (first_unknown (linked config)))
     → IfSome files (λ s. IfSome plan (AtFile s asked (Some bytes)))
@@ -109,7 +99,7 @@ at_end (Some s) asked bytes end.NoMemory reads = tt
 
 path_kind : (files : Option Stored) (asked : Asked) (bytes : List ℕ) (r : Read Config) (f : ConfigFault) (k : ConfigKind) → IsReading files asked bytes r → TellsFault r f k → OnRefusedFault (fault_refusal k f) (EmbedsPath files asked bytes)
 path_kind files asked bytes r f (kind.Text k) of says = tt
-path_kind files asked bytes r f kind.EmbedFault of says = (r, of, (f, refl, says))
+path_kind files asked bytes r f kind.EmbedFault of says = (r, of, (f.place, says))
 path_kind files asked bytes r f kind.NoSuchConst of says = tt
 path_kind files asked bytes r f kind.SeveralConfigs of says = tt
 path_kind files asked bytes r f kind.ConstLoop of says = tt

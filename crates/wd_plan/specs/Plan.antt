@@ -71,7 +71,7 @@ Plans words files plan = AtCommand files (command words) plan
 
 -- the reading comes to an embed of this path, as it is written
 abbrev pub HasPath : Read Config → List ℕ → Type 0
-HasPath r path = (f : ConfigFault) × (f.name ≡ path) × HasEmbed r f
+HasPath r path = (place : ℕ) × HasEmbed r (record { place = place; bytes = path })
 
 -- the reading of these bytes, for a command, comes to an embed of this path
 abbrev pub EmbedsPath : Option Stored → Asked → List ℕ → List ℕ → Type 0
