@@ -16,4 +16,3 @@ pub mod DifferLemmas
 pub mod Follow
 pub mod ValueLaws
 pub mod ConfiguredLaws
-pub mod ToldLaws
