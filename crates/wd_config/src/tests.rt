@@ -757,3 +757,33 @@ fn a_read_that_fails_is_told(rt: HostRuntime) -> Result<(), Fail> {
     assert_eq!(rt; files.faults.read, 1);
     Ok(())
 }
+
+/// A text with so many services, each of them a constant that leads to the first.
+fn long_text(alloc: Global, count: u32) -> Result<Vec<u8>, Fail> {
+    let mut text = Vec::from_slice(alloc, b"using W=import \"/workerd/workerd.capnp\";")?;
+    text.extend_from_slice(b"const c0:Text=\"p\";const c:W.Config=(services=[")?;
+    for number in 0..count {
+        let line = format!(in alloc; "(name=\"s{number}\",disk=.c{number}),")?;
+        text.extend_from_slice(line.as_bytes())?;
+    }
+    text.extend_from_slice(b"]);")?;
+    for number in 1..count {
+        let line = format!(in alloc; "const c{number}:Text=.c0;")?;
+        text.extend_from_slice(line.as_bytes())?;
+    }
+    Ok(text)
+}
+
+#[test]
+fn a_long_text_is_read(rt: HostRuntime) -> Result<(), Fail> {
+    let text = long_text(rt.alloc(), 2000)?;
+    if text.len() > 536870912 {
+        return Err("too long".into());
+    }
+    let mut files = MemFiles::new(rt.alloc());
+    let Ok(config) = read(rt.alloc(), text.as_slice(), None, "", &mut files) else {
+        return Err("no configuration".into());
+    };
+    assert_eq!(rt; config.services.len(), 2000);
+    Ok(())
+}
