@@ -1,5 +1,5 @@
 -- Readings along a list.
-use Rattle.std.proofs.Common.{◌≡◌, ℕ, List, [], ◌∷◌, ◌++◌, Result, Ok, Err, refl, sym, ap, subst, ◌∙◌, append_assoc, length, arith}
+use Rattle.std.proofs.Common.{◌≡◌, List, [], ◌∷◌, ◌++◌, Result, Ok, Err, refl, sym, ap, subst, append_assoc, length, arith}
 use Rattle.capnp_text.specs.declared.tree.Placed.{Placed}
 use Rattle.wd_config.specs.declared.faults.Stop.{Stop}
 use Rattle.wd_config.specs.Reading.{Read, Answer, Found, Refused, Untold, ◌>>=◌, behind, then_read, done, along, Comes}

@@ -1,13 +1,12 @@
 -- Readings in a row.
-use Rattle.std.proofs.Common.{◌≡◌, ℕ, List, [], ◌∷◌, ◌++◌, Result, Ok, Err, refl, sym, ap, subst, ◌∙◌, ◌⊎◌, inl, inr}
-use Rattle.std.specs.List.{Contains}
+use Rattle.std.proofs.Common.{◌≡◌, List, Result, Ok, Err, refl, ap, subst, inl, inr}
 use Rattle.std.proofs.lemmas.List.Elements.{Contains-append_left, Contains-append_right}
 use Rattle.capnp_text.specs.declared.tree.Placed.{Placed}
 use Rattle.wd_config.specs.declared.faults.ConfigFault.{ConfigFault}
 use Rattle.wd_config.specs.declared.faults.Stop.{Stop}
 use Rattle.wd_config.specs.declared.faults.Stop.TheVariants.{Refused as Refuse, Failed, NoMemory}
 use Rattle.wd_config.specs.Given.{Given, Gives, StopsAt}
-use Rattle.wd_config.specs.Reading.{Read, Answer, Found, Refused, Untold, ◌>>=◌, behind, then_read, given, done, Says, HasEmbed, Comes}
+use Rattle.wd_config.specs.Reading.{Read, Answer, Found, Refused, Untold, ◌>>=◌, behind, then_read, given, Says, Comes}
 
 comes_behind : {A : Type 0} (ws : List Placed) (r : Read A) (y : Result A Stop) → Comes r y → Comes (behind ws r) y
 comes_behind ws r (Ok x) c = c

@@ -1,5 +1,5 @@
 -- The passes over a file.
-use Rattle.std.proofs.Common.{◌≡◌, ℕ, List, [], ◌∷◌, Option, Result, Ok, Err, refl, sym, ap, subst, ◌∙◌}
+use Rattle.std.proofs.Common.{◌≡◌, ℕ, List, [], ◌∷◌, Option, Result, Ok, Err, sym, ap, subst, ◌∙◌}
 use Rattle.wd_base.specs.declared.config.Config.{Config}
 use Rattle.wd_ports.specs.Told.{Stored}
 use Rattle.capnp_text.specs.declared.tree.Decl.{Decl}

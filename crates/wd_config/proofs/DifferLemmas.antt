@@ -1,5 +1,5 @@
 -- Names that differ.
-use Rattle.std.proofs.Common.{◌≡◌, ℕ, ◌+◌, ◌-◌, suc, ◌<◌, ◌≤◌, Bool, true, false, cond, List, [], ◌∷◌, length, drop, map, Option, Some, None, is_some, refl, sym, ap, subst, ◌∙◌, arith, get_or, drop-cons}
+use Rattle.std.proofs.Common.{◌≡◌, ℕ, ◌-◌, suc, ◌<◌, ◌≤◌, Bool, true, false, cond, List, [], ◌∷◌, length, drop, map, Some, None, is_some, refl, sym, ap, subst, ◌∙◌, arith, get_or, drop-cons}
 use Rattle.std.specs.List.{All}
 use Rattle.std.specs.Str.{bytes_eq}
 use Rattle.std.proofs.lemmas.Bool.Decides.{not_from_Decides}
@@ -66,7 +66,7 @@ pub one_more : (ss : List Service) (i : ℕ) (s : Service) (n : List ℕ) (taken
     → Apart taken (names_from ss i) → Apart (put taken n k) (names_from ss (i - 1))
 one_more ss i s n taken k low high f h a =
     let names : names_from ss (i - 1) ≡ n ∷ names_from ss i =
-        from_here ss (i - 1) s (omega arith)
-        ∙ ap (λ (m : List ℕ). m ∷ names_from ss (suc (i - 1))) (sym f)
-        ∙ ap (λ (j : ℕ). n ∷ names_from ss j) (pred i low) in
+    from_here ss (i - 1) s (omega arith)
+    ∙ ap (λ (m : List ℕ). m ∷ names_from ss (suc (i - 1))) (sym f)
+    ∙ ap (λ (j : ℕ). n ∷ names_from ss j) (pred i low) in
     subst (Apart (put taken n k)) (sym names) (apart_more taken (names_from ss i) n k a h)

@@ -1,5 +1,5 @@
 -- What is answered is what the bytes mean.
-use Rattle.std.proofs.Common.{◌≡◌, ℕ, List, [], ◌∷◌, Option, Result, Ok, Err, refl, sym, ap, subst, ◌∙◌, inl, inr}
+use Rattle.std.proofs.Common.{◌≡◌, ℕ, List, [], Option, Result, Ok, Err, refl, sym, ap, subst, ◌∙◌, inl, inr}
 use Rattle.wd_base.specs.declared.config.Config.{Config}
 use Rattle.wd_ports.specs.Told.{Stored}
 use Rattle.capnp_text.specs.declared.tree.Decl.{Decl}
@@ -13,9 +13,9 @@ use Rattle.wd_config.specs.declared.faults.ConfigEnd.{ConfigEnd}
 use Rattle.wd_config.specs.declared.faults.ConfigEnd.TheVariants.{Fault, NoMemory}
 use Rattle.wd_config.specs.declared.faults.Stop.{Stop}
 use Rattle.wd_config.specs.declared.faults.Stop.TheVariants as stop
-use Rattle.wd_config.specs.Reading.{Read, Answer, Found, Refused, Says, HasEmbed, TellsFault, Tells, Comes, IsFailed, IsEmbedFault, refuse}
+use Rattle.wd_config.specs.Reading.{Read, Found, Refused, Says, TellsFault, Tells, Comes, IsFailed, IsEmbedFault, refuse}
 use Rattle.wd_config.specs.Configured.{configured}
-use Rattle.wd_config.specs.Answer.{Answers, Answered, EndsWith, EndsAt, EndsIn, Ends}
+use Rattle.wd_config.specs.Answer.{Answers, Answered, Ends}
 
 tells_fault : {A : Type 0} (r : Read A) (f : ConfigFault) (k : ConfigKind) → (k ≡ kind.EmbedFault → ⊥) → Says (Refused f) r.answer → TellsFault r f k
 tells_fault r f kind.EmbedFault n s = absurd (n refl)

@@ -1,5 +1,5 @@
 -- A `.name` is followed, turn by turn.
-use Rattle.std.proofs.Common.{◌≡◌, ℕ, ◌+◌, ◌-◌, suc, zero, ◌<◌, ◌≤◌, List, [], ◌∷◌, length, take, Option, Some, None, Result, Ok, Err, refl, sym, ap, subst, ◌∙◌, arith}
+use Rattle.std.proofs.Common.{◌≡◌, ℕ, ◌-◌, suc, zero, ◌<◌, ◌≤◌, List, length, take, Some, None, Ok, Err, refl, sym, ap, ◌∙◌, arith}
 use Rattle.std.proofs.lemmas.List.{take-take}
 use Rattle.capnp_text.specs.declared.tree.Decl.{Decl}
 use Rattle.capnp_text.specs.declared.tree.Placed.{Placed}
@@ -9,7 +9,7 @@ use Rattle.wd_config.specs.declared.faults.Stop.{Stop}
 use Rattle.wd_config.specs.declared.faults.Stop.TheVariants.{Refused, Failed, NoMemory}
 use Rattle.wd_config.specs.Given.{Given, StopsAt, ◌>>=◌}
 use Rattle.wd_config.specs.Names.{Names}
-use Rattle.wd_config.specs.Values.{InPlace, as_constant, opened, followed, follow, in_place}
+use Rattle.wd_config.specs.Values.{InPlace, as_constant, opened, followed, follow}
 
 pub follow_end : (n : ℕ) (file : List Decl) (cs : Names) (o : List ℕ) (v : Value) → as_constant v ≡ None → follow n file cs (o, v) ≡ Ok (o, v)
 unfolding follow

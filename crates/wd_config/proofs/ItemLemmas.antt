@@ -1,10 +1,9 @@
 -- Where the field of a slot stands.
-use Rattle.std.proofs.Common.{◌≡◌, ℕ, ◌+◌, suc, Bool, true, false, cond, List, [], ◌∷◌, ◌++◌, take, drop, Option, Some, None, refl, sym, ap, subst, ◌∙◌, arith, length, ◌<◌}
+use Rattle.std.proofs.Common.{◌≡◌, ℕ, ◌+◌, suc, Bool, true, false, cond, List, [], ◌∷◌, Some, None, refl, sym, ap, subst, ◌∙◌, arith}
 use Rattle.std.specs.List.{position_from, remove}
 use Rattle.std.specs.Prelude.{slice_index_or, nat_eq}
 use Rattle.std.proofs.lemmas.Bool.{eqb-true}
 use Rattle.wd_config.specs.declared.schema.Slot.{Slot}
-use Rattle.wd_config.specs.declared.items.Item.{Item}
 use Rattle.wd_config.specs.declared.items.Entry.{Entry}
 use Rattle.wd_config.specs.Schema.{same_slot, slot_number}
 use Rattle.wd_config.specs.Items.{item_of, is_of, without}

@@ -1,11 +1,11 @@
 -- What texts are found to be is what they are.
-use Rattle.std.proofs.Common.{◌≡◌, ℕ, suc, zero, ◌<◌, ◌≤◌, ◌^◌, Bool, true, false, cond, ◌&&◌, ◌||◌, refl, sym, ap, subst, ◌∙◌, arith, List, [], ◌∷◌, ◌++◌, length, take, drop, Option, Some, None, inl, inr, ◌⊎◌}
+use Rattle.std.proofs.Common.{◌≡◌, ℕ, suc, zero, ◌<◌, ◌≤◌, ◌^◌, Bool, true, false, cond, ◌&&◌, ◌||◌, refl, sym, ap, ◌∙◌, arith, List, [], ◌∷◌, ◌++◌, length, Option, Some, None, inl, inr}
 use Rattle.std.specs.Prelude.{◌↔◌, codes, nat_le, ◌==◌, IsTrue}
 use Rattle.std.specs.Bool.{Decides}
 use Rattle.std.specs.Fmt.{decimal}
 use Rattle.std.specs.List.{All, list_all}
 use Rattle.std.specs.Str.{bytes_eq}
-use Rattle.std.proofs.lemmas.Bool.Decides.{same_from_decides, Decides-eqb, Decides-and, Decides-or, Decides-by_and, not_from_Decides, Decides-like}
+use Rattle.std.proofs.lemmas.Bool.Decides.{Decides-eqb, Decides-and, Decides-or, Decides-by_and, not_from_Decides, Decides-like}
 use Rattle.std.proofs.lemmas.Bool.{leb-true, le-leb}
 use Rattle.std.proofs.lemmas.Slice.Eq.{bytes_eq-Decides}
 use Rattle.wd_base.specs.declared.ids.Ip4.{Ip4}
@@ -19,7 +19,7 @@ use Rattle.wd_config.specs.Dates.{IsDigit, AreDigits, IsDate}
 use Rattle.wd_config.specs.Leaves.{is_digit, are_digits, month_and_day, dated, is_date, cut_at, cut, number, part, ip4, class_of, block, range, port, is_socket_host, socket_address, is_host, external_address, ◌>>=◌, must, named, class_or_block, is_some_ip, addressed, external_parts}
 use Rattle.wd_config.specs.Ranges.{of_parts, IsIp4, IsBlock, IsBegun, IsNamed, IsRange}
 use Rattle.wd_config.proofs.CutSteps.{cut_at as place_cut, lacks}
-use Rattle.wd_config.proofs.Exact.{finds_none, finds_one, none_found, one_value, not_none}
+use Rattle.wd_config.proofs.Exact.{finds_none, none_found, one_value}
 use Rattle.wd_config.proofs.NumberSteps.{same_number}
 use Rattle.wd_config.proofs.RangeSteps.{no_part, no_dot, is_part, no_first, no_second, no_third, no_fourth, ip4_is, no_slash, no_base, no_bits, block_is, class_is, block_alone}
 use Rattle.wd_config.proofs.AddressSteps.{port_is, no_colon, no_port, no_host, to_socket, one_socket, no_external_port, no_external_host, no_name, one_external}

@@ -8,7 +8,7 @@ use Rattle.wd_config.specs.declared.faults.ConfigKind.TheVariants as kind
 use Rattle.wd_config.specs.declared.faults.Stop.{Stop}
 use Rattle.wd_config.specs.declared.faults.Stop.TheVariants.{Refused as Refuse, Failed, NoMemory}
 use Rattle.wd_config.specs.Given.{Gives, fault}
-use Rattle.wd_config.specs.Reading.{Read, Found, Refused, Untold, Says, Comes, IsStopAt}
+use Rattle.wd_config.specs.Reading.{Refused, Comes, IsStopAt}
 use Rattle.wd_config.specs.Values.{loaded, file_for}
 
 placed : ℕ → List ℕ → Placed

@@ -1,11 +1,10 @@
 -- The bytes have one reading.
-use Rattle.std.proofs.Common.{◌≡◌, ℕ, List, [], Option, Result, Ok, Err, refl, sym, ap, subst, ◌∙◌, ◌⊎◌, inl, inr}
+use Rattle.std.proofs.Common.{◌≡◌, ℕ, List, [], Option, Result, Ok, Err, refl, sym, ap, ◌∙◌, inl, inr}
 use Rattle.wd_base.specs.declared.config.Config.{Config}
 use Rattle.wd_ports.specs.Told.{Stored}
 use Rattle.capnp_text.specs.declared.tree.Decl.{Decl}
 use Rattle.capnp_text.specs.declared.reader.TextFault.{TextFault}
-use Rattle.capnp_text.specs.declared.reader.ParseEnd.{ParseEnd}
-use Rattle.capnp_text.specs.declared.reader.ParseEnd.TheVariants.{Fault, NoMemory}
+use Rattle.capnp_text.specs.declared.reader.ParseEnd.TheVariants.{Fault}
 use Rattle.capnp_text.specs.Answer.{answer}
 use Rattle.capnp_text.specs.Scan.{scanned}
 use Rattle.capnp_text.specs.Fault.{IsText, IsFirstFault}
@@ -13,7 +12,7 @@ use Rattle.capnp_text.proofs.Judged.{only_law, only_fault_law}
 use Rattle.wd_config.specs.declared.faults.ConfigKind.TheVariants as kind
 use Rattle.wd_config.specs.Reading.{Read, refuse}
 use Rattle.wd_config.specs.Configured.{configured}
-use Rattle.wd_config.specs.Answer.{OfFile, OfFault, Answers}
+use Rattle.wd_config.specs.Answer.{Answers}
 
 -- bytes are one file's text
 files_at : (bs : List ℕ) (told : Result (List Decl) TextFault) → answer (scanned bs) ≡ told → (f g : List Decl) → IsText f bs → IsText g bs → f ≡ g

@@ -1,5 +1,5 @@
 -- The turns of the reading of values.
-use Rattle.std.proofs.Common.{◌≡◌, ℕ, ◌-◌, suc, zero, ◌<◌, List, [], ◌∷◌, ◌++◌, Result, Ok, Err, refl, sym, ap, subst, ◌∙◌, arith}
+use Rattle.std.proofs.Common.{◌≡◌, ℕ, ◌-◌, suc, ◌<◌, List, [], ◌∷◌, ◌++◌, Result, Ok, Err, sym, ap, subst, ◌∙◌, arith}
 use Rattle.capnp_text.specs.declared.tree.Placed.{Placed}
 use Rattle.capnp_text.specs.declared.tree.Value.{Value}
 use Rattle.capnp_text.specs.declared.tree.Field.{Field}
@@ -16,8 +16,8 @@ use Rattle.wd_ports.specs.Told.{Told}
 use Rattle.wd_config.specs.declared.scope.Scope.{Scope}
 use Rattle.wd_config.specs.Scope.{context}
 use Rattle.wd_config.specs.Names.{Names}
-use Rattle.wd_config.specs.Reading.{Read, Found, done, given, ◌>>=◌, Comes}
-use Rattle.wd_config.specs.Values.{Context, InPlace, Reader, in_place, shaped, value_item, allowed, field_step, entry, item_step, item_shape, with_item, with_name}
+use Rattle.wd_config.specs.Reading.{Found, done, given, ◌>>=◌, Comes}
+use Rattle.wd_config.specs.Values.{Context, Reader, in_place, shaped, value_item, allowed, field_step, entry, item_step, item_shape, with_item, with_name}
 use Rattle.wd_config.proofs.Comes.{comes_then, stops_then, given_comes, stops_comes}
 
 one_level : (n m : ℕ) (c : Context) (o : List ℕ) (taken : Names) (label : Placed) (x : Shape) (v : Value) → n ≡ suc m
@@ -68,7 +68,7 @@ pub item_reads : (read : Reader) (label : Placed) (k : ListKind) (l : Listed) (v
     → more ≡ record { items = with_item l.items i; taken = with_name l.taken i } → Comes (item_step read label k l v) (Ok more)
 item_reads read label k l v x i more e c m =
     comes_then (read l.taken label (item_shape k) v) (λ i. done (record { items = with_item l.items i; taken = with_name l.taken i })) i (Ok more)
-        (subst (λ (z : Shape). Comes (read l.taken label z v) (Ok i)) e c) (ap Found (sym m))
+    (subst (λ (z : Shape). Comes (read l.taken label z v) (Ok i)) e c) (ap Found (sym m))
 
 -- the same files are told, and the same constants are open
 pub moved : (n : ℕ) (s : Scope) (t u : Told) (o p : List ℕ) → t ≡ u → o ≡ p → value_item n (context s t) o ≡ value_item n (context s u) p

@@ -1,6 +1,5 @@
 -- What a struct is, by its fields.
 use Rattle.std.specs.Prelude.{ℕ, Bool, false, List, [], ◌∷◌, Option, Some, None, unwrap_or, Ok, codes}
-use Rattle.wd_base.specs.declared.ids.Ip4.{Ip4}
 use Rattle.wd_base.specs.declared.config.Addr.{Addr}
 use Rattle.wd_base.specs.declared.config.Range.{Range}
 use Rattle.wd_base.specs.declared.config.RangeClass.TheVariants as class

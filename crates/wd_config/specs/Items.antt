@@ -1,5 +1,5 @@
 -- What a field's value is read to, and how a struct finds its fields.
-use Rattle.std.specs.Prelude.{ℕ, List, [], ◌∷◌, Option, Some, None, Bool, if◌then◌else◌}
+use Rattle.std.specs.Prelude.{List, [], ◌∷◌, Option, Some, None, Bool, if◌then◌else◌}
 use Rattle.std.specs.List.{list_any}
 use Rattle.wd_config.specs.declared.schema.Slot.{Slot}
 use Rattle.wd_config.specs.declared.items.Item.{Item}

@@ -1,5 +1,4 @@
 -- The context that a scope and the files give.
-use Rattle.std.specs.Prelude.{Option}
 use Rattle.wd_ports.specs.Told.{Told}
 use Rattle.wd_config.specs.declared.scope.Scope.{Scope}
 use Rattle.wd_config.specs.Values.{Context}

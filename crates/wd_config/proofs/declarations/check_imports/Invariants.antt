@@ -1,4 +1,4 @@
-use Rattle.std.proofs.Common.{◌≡◌, ℕ, ◌+◌, length}
+use Rattle.std.proofs.Common.{◌≡◌, length}
 use Rattle.wd_config.specs.Configured.{imports}
 use Rattle.wd_config.proofs.declarations.check_imports.Given as goal
 

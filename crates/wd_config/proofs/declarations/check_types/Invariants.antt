@@ -1,4 +1,4 @@
-use Rattle.std.proofs.Common.{◌≡◌, ℕ, ◌+◌, length}
+use Rattle.std.proofs.Common.{◌≡◌, length}
 use Rattle.wd_config.specs.Configured.{types}
 use Rattle.wd_config.proofs.declarations.check_types.Given as goal
 

@@ -1,7 +1,7 @@
-use Rattle.std.proofs.Common.{◌≡◌, ℕ, ◌≤◌, List, length, take, refl, sym, ap, ◌∙◌, arith}
+use Rattle.std.proofs.Common.{◌≤◌, length, refl, sym, ◌∙◌, arith}
 use Rattle.std.proofs.Math.Seq.{take-length}
 use Rattle.std.proofs.lemmas.Result.{err_from_is_err_and}
-use Rattle.wd_config.specs.Values.{follow, in_place}
+use Rattle.wd_config.specs.Values.{in_place}
 use Rattle.wd_config.proofs.Follow.{follow_end, follow_more, follow_stops, follow_none, kept}
 use Rattle.wd_config.proofs.places.in_place.Goals as goal
 

@@ -1,4 +1,4 @@
-use Rattle.std.proofs.Common.{◌≡◌, ℕ, ◌≤◌, length, take}
+use Rattle.std.proofs.Common.{◌≡◌, ◌≤◌, length, take}
 use Rattle.wd_config.specs.Values.{follow, in_place}
 use Rattle.wd_config.proofs.places.in_place.Given as goal
 

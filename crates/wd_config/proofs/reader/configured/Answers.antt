@@ -27,4 +27,4 @@ returns-in_err-root-clause-reads g c = let p = err_from_is_err_and c.from_residu
 pub returns-clause-reads : goal.returns-clause-reads
 returns-clause-reads g c =
     config_comes (option_map (λ (s : Bor (List ℕ)). s.now) c.args.const_name) c.args.folder.now (g.F.Files.told c.args.files.now).files c.args.file.now c.in_ok-tables.tables c.in_ok-check_imports.field-0 c.in_ok-check_types.field-0 c.in_ok-name.name c.as_slice.result.now (root_of c.in_ok-root.root) c.rooted_config.result
-        c.in_ok-tables.ensures c.in_ok-check_imports.ensures c.in_ok-check_types.ensures c.in_ok-name.ensures c.as_slice.ensures c.in_ok-root.ensures c.rooted_config.ensures.reads
+    c.in_ok-tables.ensures c.in_ok-check_imports.ensures c.in_ok-check_types.ensures c.in_ok-name.ensures c.as_slice.ensures c.in_ok-root.ensures c.rooted_config.ensures.reads

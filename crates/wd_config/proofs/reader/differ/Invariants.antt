@@ -1,4 +1,4 @@
-use Rattle.std.proofs.Common.{◌≡◌, ℕ, ◌≤◌, length}
+use Rattle.std.proofs.Common.{◌≤◌, length}
 use Rattle.wd_config.proofs.DifferLemmas.{Apart, names_from}
 use Rattle.wd_config.proofs.reader.differ.Given as goal
 

@@ -1,8 +1,7 @@
-use Rattle.std.proofs.Common.{◌≡◌, ℕ, ◌≤◌, List, [], ◌∷◌, Ok, Err, refl, sym, ap, subst, ◌∙◌, arith}
+use Rattle.std.proofs.Common.{◌≡◌, Ok, Err, refl, subst, ◌∙◌, arith}
 use Rattle.std.proofs.lemmas.Result.{err_from_is_err_and}
 use Rattle.wd_config.specs.Build.{built}
-use Rattle.wd_config.specs.Given.{Gives}
-use Rattle.wd_config.specs.Reading.{Comes, along, done, given, ◌>>=◌}
+use Rattle.wd_config.specs.Reading.{Comes, done, given}
 use Rattle.wd_config.specs.Scope.{context}
 use Rattle.wd_config.specs.Values.{Reader, value_item, listed, structured, place_of, as_list, as_struct, item_step, field_step}
 use Rattle.wd_config.proofs.Comes.{gives_comes}
@@ -45,7 +44,7 @@ listed-returns-in_err-list-clause-reads g t c =
     let same : here ≡ read = moved c.args.levels c.args.scope.now (g.F.Files.told c.loop-first.files) (g.F.Files.told c.args.files.now) c.loop-first.active c.args.active.now c.loop-first.invariant.told c.loop-first.invariant.same in
     let p = err_from_is_err_and c.from_residual.result c.from_residual.ensures.1 in
     rw (p.1, p.2) (loop_stops (item_step read c.args.label.now c.args.kind) c.loop-first.list c.loop-first.rest.now c.in-Some-split_first.first.now c.in-Some-split_first.more.now (λ made. done made.items) (listed read c.args.label.now c.args.kind (place_of c.args.value.now) (as_list c.args.value.now)) c.in_err-list.field-0.0
-        c.loop-first.invariant.leads c.in-Some-split_first.ensures.cases.0 (subst (λ (r : Reader). Comes (item_step r c.args.label.now c.args.kind c.loop-first.list c.in-Some-split_first.first.now) (Err c.in_err-list.field-0.0)) same c.in_err-list.ensures.reads))
+    c.loop-first.invariant.leads c.in-Some-split_first.ensures.cases.0 (subst (λ (r : Reader). Comes (item_step r c.args.label.now c.args.kind c.loop-first.list c.in-Some-split_first.first.now) (Err c.in_err-list.field-0.0)) same c.in_err-list.ensures.reads))
 
 pub listed-loop-first-preserved : goal.listed-loop-first-preserved
 listed-loop-first-preserved g t c =
@@ -72,7 +71,7 @@ structured-returns-in_err-entries-clause-reads g t c =
     let same : here ≡ read = moved c.args.levels c.args.scope.now (g.F.Files.told c.loop-first.files) (g.F.Files.told c.args.files.now) c.loop-first.active c.args.active.now c.loop-first.invariant.told c.loop-first.invariant.same in
     let p = err_from_is_err_and c.from_residual.result c.from_residual.ensures.1 in
     rw (p.1, p.2) (loop_stops (field_step read c.args.taken.now c.args.kind) c.loop-first.entries c.loop-first.rest.now c.in-Some-split_first.first.now c.in-Some-split_first.more.now (λ es. given (built c.args.kind c.in-Some.place es)) (structured read (context c.args.scope.now (g.F.Files.told c.args.files.now)) c.args.taken.now c.args.label.now c.args.kind c.args.value.now (as_struct c.args.value.now)) c.in_err-entries.field-0.0
-        c.loop-first.invariant.leads c.in-Some-split_first.ensures.cases.0 (subst (λ (r : Reader). Comes (field_step r c.args.taken.now c.args.kind c.loop-first.entries c.in-Some-split_first.first.now) (Err c.in_err-entries.field-0.0)) same c.in_err-entries.ensures.reads))
+    c.loop-first.invariant.leads c.in-Some-split_first.ensures.cases.0 (subst (λ (r : Reader). Comes (field_step r c.args.taken.now c.args.kind c.loop-first.entries c.in-Some-split_first.first.now) (Err c.in_err-entries.field-0.0)) same c.in_err-entries.ensures.reads))
 
 pub structured-loop-first-preserved : goal.structured-loop-first-preserved
 structured-loop-first-preserved g t c =

@@ -1,4 +1,4 @@
-use Rattle.std.proofs.Common.{◌≡◌, ℕ, ◌+◌, ◌*◌, ◌≤◌, length, []}
+use Rattle.std.proofs.Common.{◌≡◌, ◌+◌, ◌*◌, ◌≤◌, length}
 use Rattle.wd_ports.specs.Faults.{part, ReadFile}
 use Rattle.wd_config.specs.Reading.{along, done, given, ◌>>=◌}
 use Rattle.wd_config.specs.Build.{built}
