@@ -18,13 +18,14 @@ use Rattle.wd_config.specs.declared.schema.Shape.{Shape}
 use Rattle.wd_config.specs.declared.schema.Shape.TheVariants as shape
 use Rattle.wd_config.specs.declared.schema.Slot.{Slot}
 use Rattle.wd_config.specs.declared.items.Item.{Item}
+use Rattle.wd_config.specs.declared.lists.Listed.{Listed}
 use Rattle.wd_config.specs.declared.items.Entry.{Entry}
 use Rattle.wd_config.specs.Answer.{Answers}
 use Rattle.wd_config.specs.Configured.{Rooted, chosen, config_in, configured, declared, imports, no_tables, root, rooted_config, types}
 use Rattle.wd_config.specs.Given.{Given}
 use Rattle.wd_config.specs.Names.{Names}
 use Rattle.wd_config.specs.Reading.{Answer, Found, Refused, Untold, Read, then_read, done, given, refuse, along, ◌>>=◌}
-use Rattle.wd_config.specs.Values.{Context, Reader, InPlace, Listed, allowed, as_data, as_embed, as_list, as_struct, as_text, bare, bared, checked, data_for, entry, field_step, file_for, full_path, in_place, is_left_out, item_shape, item_step, leaf_item, listed, most_levels, load, load_at, loaded, place_of, shaped, source, sourced, structured, utf8_of, value_item, with_item, with_name, empty_list}
+use Rattle.wd_config.specs.Values.{Context, Reader, InPlace, allowed, as_data, as_embed, as_list, as_struct, as_text, bare, bared, checked, data_for, entry, field_step, file_for, full_path, in_place, is_left_out, item_shape, item_step, leaf_item, listed, most_levels, load, load_at, loaded, place_of, shaped, source, sourced, structured, utf8_of, value_item, with_item, with_name, empty_list}
 
 -- the answer is told
 abbrev pub is_told : {A : Type 0} → Answer A → Bool
