@@ -500,8 +500,18 @@ fn a_world_without_sockets_makes_no_port(rt: HostRuntime) -> Result<(), Fail> {
 fn a_check_serves_nothing(rt: HostRuntime) -> Result<(), Fail> {
     let cases: [(&[&str], &[u8], u8, &[u8]); 5] = [
         (&["check", "config.capnp"], CONFIG, 0, b"ok 2 1\n"),
-        (&["check", "config.capnp", "none"], TWO_CONFIGS, 0, b"ok 1 0\n"),
-        (&["check", "config.capnp", "two"], TWO_CONFIGS, 0, b"ok 3 2\n"),
+        (
+            &["check", "config.capnp", "none"],
+            TWO_CONFIGS,
+            0,
+            b"ok 1 0\n",
+        ),
+        (
+            &["check", "config.capnp", "two"],
+            TWO_CONFIGS,
+            0,
+            b"ok 3 2\n",
+        ),
         (&["check", "config.capnp"], WITH_BINDING, 0, b"ok 2 1\n"),
         (
             &["check", "config.capnp"],
@@ -587,7 +597,12 @@ fn a_refused_file_has_its_status_and_text(rt: HostRuntime) -> Result<(), Fail> {
             2,
             b"error: link UnknownService http -> other\n",
         ),
-        (WITH_BINDING, HELLO, 2, b"error: config LeftOut at 0: kind\n"),
+        (
+            WITH_BINDING,
+            HELLO,
+            2,
+            b"error: config LeftOut at 0: kind\n",
+        ),
         (
             CONFIG,
             b"",

@@ -134,9 +134,13 @@ fn run<R: Wait, F: Files, M: Maker>(
 {
     match begin(alloc, words, files) {
         Err(outcome) => early(alloc, outcome),
-        Ok(Ready {
-            world, isolates, ..
-        }) => serve(rt, alloc, maker, world, isolates, ports),
+        Ok(
+            Ready {
+                world,
+                isolates,
+                ..
+            },
+        ) => serve(rt, alloc, maker, world, isolates, ports),
     }
 }
 
@@ -146,12 +150,7 @@ fn run<R: Wait, F: Files, M: Maker>(
 ///
 /// The answer is the exit status: 0, or as in [`Ended`]. No file is changed, and nothing is waited
 /// for.
-pub fn offline<F: Files, K: Sink>(
-    alloc: Global,
-    words: &[String],
-    files: &mut F,
-    out: &mut K,
-) -> u8
+pub fn offline<F: Files, K: Sink>(alloc: Global, words: &[String], files: &mut F, out: &mut K) -> u8
     requires { is_serve (command (map string_bytes words.now)) ≡ false }
     ensures ends { EndsOffline (record { words = map string_bytes words.now; files = (F.told files.old).files; read_failed = RoseIn ReadFile (F.faults files.old) (F.faults files.new); maker_failed = ⊥ }) (record { before = K.held out.old; after = K.held out.new; failures_before = K.failures out.old; failures_after = K.failures out.new }) result }
     ensures status { IfSome (F.told files.old).files (λ s. IsStatus (map string_bytes words.now) s (RoseIn ReadFile (F.faults files.old) (F.faults files.new)) (Rose (K.failures out.old) (K.failures out.new)) result) }
