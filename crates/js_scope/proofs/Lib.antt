@@ -1,0 +1,5 @@
+mod Back
+mod NameLemmas
+mod Equations
+mod Judge
+mod SplitLaws

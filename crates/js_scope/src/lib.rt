@@ -1,0 +1,10 @@
+//! The early faults of scripts. `docs/SCRIPTS.md` lists them.
+#![tactic(auto)]
+
+mod fault;
+mod names;
+mod scope;
+mod stack;
+mod task;
+
+pub use fault::{EarlyEnd, EarlyFault, EarlyKind};
