@@ -3,3 +3,4 @@ mod NameLemmas
 mod Equations
 mod Judge
 mod SplitLaws
+mod Splits

@@ -4,6 +4,7 @@
 mod fault;
 mod names;
 mod scope;
+mod split;
 mod stack;
 mod task;
 
