@@ -4,3 +4,4 @@ mod Equations
 mod Judge
 mod SplitLaws
 mod Splits
+mod ListSplits

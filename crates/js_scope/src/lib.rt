@@ -2,6 +2,7 @@
 #![tactic(auto)]
 
 mod fault;
+mod lists;
 mod names;
 mod scope;
 mod split;
