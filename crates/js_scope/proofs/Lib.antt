@@ -5,3 +5,4 @@ mod Judge
 mod SplitLaws
 mod Splits
 mod ListSplits
+mod StmtSplits

@@ -1,5 +1,6 @@
 -- The tasks of lists and of what they hold.
-use Rattle.std.proofs.Common.{◌≡◌, List, [], ◌∷◌, ◌++◌, map, Option, Some, None, option_map, Result, OnOk, refl, sym, ap, ◌∙◌}
+use Rattle.std.proofs.Common.{◌≡◌, ◌≤◌, ◌-◌, arith, length, take, drop, get_or, List, [], ◌∷◌, ◌++◌, map, Option, Some, None, option_map, Result, OnOk, refl, sym, ap, ◌∙◌}
+use Rattle.std.proofs.Math.Seq.{take-length}
 use Rattle.js_tree.specs.declared.tree.Name.{Name}
 use Rattle.js_tree.specs.declared.tree.Key.{Key}
 use Rattle.js_tree.specs.declared.tree.Declaration.{Declaration}
@@ -13,6 +14,16 @@ use Rattle.js_scope.specs.Early.{Marks, Declares, concat, declares, optional, of
 use Rattle.js_scope.specs.Verdict.{IsSplit}
 use Rattle.js_scope.proofs.Equations as eq
 use Rattle.js_scope.proofs.Splits.{Tasks, as_none, as_one, as_two}
+
+none : 1 ≤ 0 → ⊥
+none le = omega (arith, le)
+
+-- a list as its first item and the others
+pub cut : {A : Type 0} (xs : List A) (x : A) → 1 ≤ length xs → x ≡ get_or xs 0 x → xs ≡ x ∷ take (length xs - 1) (drop 1 xs)
+cut [] x some e = absurd (none some)
+cut (y ∷ ys) x some e =
+    let n : length ys ≡ length (y ∷ ys) - 1 = omega arith in
+    ap (λ z. z ∷ ys) (sym e) ∙ ap (λ zs. x ∷ zs) (sym (take-length ys)) ∙ ap (λ k. x ∷ take k ys) n
 
 -- a list of what has marks by some reading
 module _ {A : Type 0} (of : A → Marks) where

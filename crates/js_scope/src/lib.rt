@@ -7,6 +7,7 @@ mod names;
 mod scope;
 mod split;
 mod stack;
+mod stmts;
 mod task;
 
 pub use fault::{EarlyEnd, EarlyFault, EarlyKind};

@@ -1,12 +1,12 @@
-ghost use Rattle.std.specs.Prelude.{◌≡◌, [], ◌∷◌, ◌++◌, map, OnOk};
+ghost use Rattle.std.specs.Prelude.{[], ◌∷◌, OnOk};
 ghost use Rattle.js_scope.specs.Early as early;
-ghost use Rattle.js_scope.specs.Verdict.{IsSplit, piece_marks, inside};
+ghost use Rattle.js_scope.specs.Verdict.{IsSplit, piece_marks};
 
 use crate::fault::{EarlyFault, EarlyKind};
 use crate::stack::Stack;
 use crate::task::{How, Piece, Task};
 use js_tree::{
-    ArrowBody, Expr, Function, Name, Stmt, Target,
+    ArrowBody, Expr, Function, Name, Target,
 };
 use wd_base::NoMemory;
 
@@ -19,7 +19,7 @@ pub(crate) fn put<'a>(tasks: &mut Stack<Task<'a>>, piece: Piece<'a>) -> Result<(
 }
 
 /// Puts a word on the tasks that is a fault unless something around it allows it.
-fn put_word<'a>(
+pub(crate) fn put_word<'a>(
     tasks: &mut Stack<Task<'a>>,
     kind: EarlyKind,
     place: usize,
@@ -27,34 +27,6 @@ fn put_word<'a>(
     ensures { OnOk result (IsSplit tasks.old (early.word kind place ∷ []) tasks.new) }
 {
     put(tasks, Piece::Word(EarlyFault { kind, place }))
-}
-
-/// Puts statements on the tasks that stand in a scope of their own.
-#[tactic(auto, using(crate::proofs::Splits::on_inside))]
-fn put_block<'a>(
-    tasks: &mut Stack<Task<'a>>,
-    how: How,
-    stmts: &'a [Stmt],
-) -> Result<(), NoMemory>
-    ensures { OnOk result (IsSplit tasks.old (inside how (early.concat (map early.of_stmt stmts.now))) tasks.new) }
-{
-    tasks.push(Task::Leave)?;
-    put(tasks, Piece::Stmts(stmts))?;
-    tasks.push(Task::Enter(how))
-}
-
-/// Puts a statement on the tasks that stands in a scope of its own.
-#[tactic(auto, using(crate::proofs::Splits::on_inside))]
-fn put_body<'a>(
-    tasks: &mut Stack<Task<'a>>,
-    how: How,
-    stmt: &'a Stmt,
-) -> Result<(), NoMemory>
-    ensures { OnOk result (IsSplit tasks.old (inside how (early.of_stmt stmt.now)) tasks.new) }
-{
-    tasks.push(Task::Leave)?;
-    put(tasks, Piece::Stmt(stmt))?;
-    tasks.push(Task::Enter(how))
 }
 
 /// Puts a target on the tasks.
