@@ -6,3 +6,4 @@ mod SplitLaws
 mod Splits
 mod ListSplits
 mod StmtSplits
+mod WalkLaws

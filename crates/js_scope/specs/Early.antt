@@ -1,5 +1,5 @@
 -- The early faults of a script, in the order of its text.
-use Rattle.std.specs.Prelude.{ℕ, nat_eq, Bool, true, false, List, [], ◌∷◌, ◌++◌, map, flat_map, Option, Some, None, if◌then◌else◌}
+use Rattle.std.specs.Prelude.{ℕ, ◌≡◌, nat_eq, Result, Ok, Err, Bool, true, false, List, [], ◌∷◌, ◌++◌, map, flat_map, Option, Some, None, if◌then◌else◌}
 use Rattle.std.specs.List.{list_any}
 use Rattle.std.specs.Cmp.Lexicographic.{pointwise}
 use Rattle.js_tree.specs.declared.tree.Name.{Name}
@@ -17,6 +17,8 @@ use Rattle.js_tree.specs.declared.tree.Property.{Property}
 use Rattle.js_tree.specs.declared.tree.Stmt.{Stmt}
 use Rattle.js_tree.specs.declared.tree.Target.{Target}
 use Rattle.js_tree.specs.declared.tree.TemplateItem.{TemplateItem}
+use Rattle.js_scope.specs.declared.fault.EarlyEnd.{EarlyEnd}
+use Rattle.js_scope.specs.declared.fault.EarlyEnd.TheVariants.{Fault, NoMemory}
 use Rattle.js_scope.specs.declared.fault.EarlyFault.{EarlyFault}
 use Rattle.js_scope.specs.declared.fault.EarlyKind.{EarlyKind}
 use Rattle.js_scope.specs.declared.fault.EarlyKind.TheVariants.{DoubleName, ReturnOutside, AwaitOutside, BreakOutside}
@@ -245,3 +247,9 @@ early_faults items = faults_of (scope (concat (map of_item items)))
 abbrev pub first : List EarlyFault → Option EarlyFault
 first [] = None
 first (f ∷ fs) = Some f
+
+-- the answer is the first of these faults, where there is one
+abbrev pub IsFirst : {A : Type 0} → List EarlyFault → Result A EarlyEnd → Type 0
+IsFirst fs (Ok x) = fs ≡ []
+IsFirst fs (Err (Fault f)) = first fs ≡ Some f
+IsFirst fs (Err NoMemory) = Unit {0}

@@ -100,3 +100,18 @@ verdict (t ∷ ts) s outer = perform t s outer (λ t' o'. verdict ts t' o')
 -- the new tasks are the old ones behind these marks
 pub record IsSplit (old : List Task) (ms : Marks) (new : List Task) : Type 0 where
   pub same : (s : Scope) (outer : List Scope) → verdict new s outer ≡ settle (judge s ms) (λ t. verdict old t outer)
+
+-- this answer goes on with the fault that was come to before, or is it
+abbrev pub Goes : Option EarlyFault → Option EarlyFault → Result Unit EarlyEnd → Type 0
+Goes before after (Ok done) = before ≡ after
+Goes before after (Err (Fault f)) = before ≡ Some f
+Goes before after (Err NoMemory) = Unit {0}
+
+-- this answer is the fault that is come to
+abbrev pub Comes : Option EarlyFault → Result Unit EarlyEnd → Type 0
+Comes found answer = Goes found None answer
+
+-- the same answer
+abbrev pub answered : {E : Type 0} → Result Unit E → Result Unit EarlyEnd
+answered (Ok done) = Ok done
+answered (Err e) = Err NoMemory

@@ -9,5 +9,6 @@ mod split;
 mod stack;
 mod stmts;
 mod task;
+mod walk;
 
 pub use fault::{EarlyEnd, EarlyFault, EarlyKind};
