@@ -12,7 +12,7 @@ use Rattle.js_scope.specs.declared.task.How.{How}
 use Rattle.js_scope.specs.declared.task.How.TheVariants as how
 use Rattle.js_scope.specs.Early.{Mark, Marks, Declares, Unless, Faulty, fault, stands, scope_from, loop, function, through_loop, through_function, faults_of, first}
 use Rattle.js_scope.specs.Names.{has, with_name}
-use Rattle.js_scope.specs.Verdict.{allows, around_in, entered, judge_word, judge_mark, judge, and_then, inside, settle}
+use Rattle.js_scope.specs.Verdict.{nothing_around, top_scope, allows, around_in, entered, judge_word, judge_mark, judge, and_then, inside, settle}
 use Rattle.js_scope.proofs.NameLemmas.{has_with}
 
 abbrev pub Judged : Type 0
@@ -21,9 +21,9 @@ Judged = Result Scope EarlyFault
 pub judge_append : (s : Scope) (xs ys : Marks) → judge s (xs ++ ys) ≡ and_then (judge s xs) (λ t. judge t ys)
 judge_append s [] ys = refl
 judge_append s (m ∷ xs) ys = elim (judge_mark s m) as (λ (r : Judged). and_then r (λ t. judge t (xs ++ ys)) ≡ and_then (and_then r (λ t. judge t xs)) (λ t. judge t ys)) [
-    | Ok t ↦ judge_append t xs ys
-    | Err f ↦ refl
-  ]
+  | Ok t ↦ judge_append t xs ys
+  | Err f ↦ refl
+]
 
 -- the scope around, after what was judged within it
 abbrev pub back : Scope → Judged → Judged
@@ -112,12 +112,6 @@ pub judge_inside : (h : How) (s : Scope) (ms : Marks) → judge s (inside h ms) 
 judge_inside h s ms = ap (judge s) (inside_is h ms) ∙ judge_shown h s ms [] [] (λ q. refl)
 
 -- ---- the top level
-
-abbrev pub nothing_around : Around
-nothing_around = record { in_function = false; is_async = false; in_loop = false }
-
-abbrev pub top_scope : Scope
-top_scope = record { names = []; around = nothing_around }
 
 nothing_allows : (k : EarlyKind) → allows nothing_around k ≡ false
 nothing_allows DoubleName = refl

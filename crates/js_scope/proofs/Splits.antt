@@ -94,16 +94,16 @@ split_number old x n e = as_none old (of_expr x) (ap of_expr e ∙ eq.number_mar
 pub split_text : (old : Tasks) (x : Expr) (us : List ℕ) → x ≡ expr.Text us → IsSplit old (of_expr x) old
 split_text old x us e = as_none old (of_expr x) (ap of_expr e ∙ eq.text_marks us)
 
-pub split_true : (old : Tasks) (x : Expr)  → x ≡ expr.True → IsSplit old (of_expr x) old
+pub split_true : (old : Tasks) (x : Expr) → x ≡ expr.True → IsSplit old (of_expr x) old
 split_true old x e = as_none old (of_expr x) (ap of_expr e ∙ eq.true_marks)
 
-pub split_false : (old : Tasks) (x : Expr)  → x ≡ expr.False → IsSplit old (of_expr x) old
+pub split_false : (old : Tasks) (x : Expr) → x ≡ expr.False → IsSplit old (of_expr x) old
 split_false old x e = as_none old (of_expr x) (ap of_expr e ∙ eq.false_marks)
 
-pub split_null : (old : Tasks) (x : Expr)  → x ≡ expr.Null → IsSplit old (of_expr x) old
+pub split_null : (old : Tasks) (x : Expr) → x ≡ expr.Null → IsSplit old (of_expr x) old
 split_null old x e = as_none old (of_expr x) (ap of_expr e ∙ eq.null_marks)
 
-pub split_this : (old : Tasks) (x : Expr)  → x ≡ expr.This → IsSplit old (of_expr x) old
+pub split_this : (old : Tasks) (x : Expr) → x ≡ expr.This → IsSplit old (of_expr x) old
 split_this old x e = as_none old (of_expr x) (ap of_expr e ∙ eq.this_marks)
 
 pub split_template : {T E : Type 0} (r : Result T E) (old new : Tasks) (x : Expr) (is : List TemplateItem) (us : List ℕ) (is' : List TemplateItem) → x ≡ expr.Template is us → is' ≡ is → OnOk r (IsSplit old (concat (map of_template is')) new) → OnOk r (IsSplit old (of_expr x) new)
@@ -152,5 +152,7 @@ pub split_index : {T E : Type 0} (r : Result T E) (old mid1 new : Tasks) (x : Ex
 split_index r old mid1 new x o k o' k' e e_o e_k s0 s1 = as_two r old mid1 new (of_expr k') (of_expr o') (of_expr x) (ap of_expr e ∙ eq.index_marks o k ∙ ap (λ (z : Expr). of_expr z ++ of_expr k) (sym e_o) ∙ ap (λ (z : Expr). of_expr o' ++ of_expr z) (sym e_k)) s0 s1
 
 pub ruleset targets = (split_variable, split_field, split_item)
+
 pub ruleset arrow_bodies = (split_statements, split_value)
+
 pub ruleset exprs = (split_name, split_number, split_text, split_true, split_false, split_null, split_this, split_template, split_array, split_object, split_function_expr, split_group, split_unary, split_await, split_update, split_binary, split_conditional, split_assign, split_call, split_new, split_member, split_index)

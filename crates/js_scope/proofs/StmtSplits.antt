@@ -125,4 +125,5 @@ pub split_expr_stmt : {T E : Type 0} (r : Result T E) (old new : Tasks) (x : Stm
 split_expr_stmt r old new x v v' e e_v s0 = as_one r old new (of_expr v') (of_stmt x) (ap of_stmt e ∙ eq.expr_stmt_marks v ∙ ap (λ (z : Expr). of_expr z) (sym e_v)) s0
 
 pub ruleset begins = (split_nothing, split_declarations, split_start)
+
 pub ruleset stmts = (split_declare, split_declare_function, split_block, split_if, split_while, split_break, split_continue, split_return, split_throw, split_try, split_empty, split_expr_stmt, split_for, split_for_of)

@@ -7,9 +7,9 @@ use Rattle.js_scope.specs.declared.fault.EarlyFault.{EarlyFault}
 use Rattle.js_scope.specs.declared.scope.Scope.{Scope}
 use Rattle.js_scope.specs.declared.task.Piece.{Piece}
 use Rattle.js_scope.specs.declared.task.Task.{Task}
-use Rattle.js_scope.specs.Early.{Marks, Declares, Unless}
-use Rattle.js_scope.specs.Verdict.{Goes, Judges, IsSplit, answered, and_then, judge, judge_mark, judge_name, judge_word, settle, verdict}
-use Rattle.js_scope.proofs.Judge.{Judged}
+use Rattle.js_scope.specs.Early.{Marks, Declares, Unless, IsFirst, faults_of, first, scope}
+use Rattle.js_scope.specs.Verdict.{Comes, Goes, Judges, top_scope, IsSplit, answered, and_then, judge, judge_mark, judge_name, judge_word, settle, verdict}
+use Rattle.js_scope.proofs.Judge.{Judged, top_is}
 
 -- a piece of one mark
 one_mark : (j : Judged) (r : Result Unit EarlyEnd) (new : Scope) (k : Scope → Option EarlyFault) → Judges j new r → Goes (settle (and_then j (λ t. Ok t)) k) (k new) r
@@ -28,3 +28,17 @@ goes_split (Ok x) r s ms old new outer e i = rw e (sym (i.same s outer))
 goes_split (Err n) r s ms old new outer e i = rw e tt
 
 pub ruleset goes = (goes_name, goes_word, goes_split)
+
+none_first : (fs : List EarlyFault) → first fs ≡ None → fs ≡ []
+none_first [] e = refl
+none_first (f ∷ fs) e = cc
+
+is_first : (fs : List EarlyFault) (found : Option EarlyFault) (r : Result Unit EarlyEnd) → first fs ≡ found → Comes found r → IsFirst fs r
+is_first fs found (Ok x) e come = none_first fs (e ∙ come)
+is_first fs found (Err (Fault f)) e come = e ∙ come
+is_first fs found (Err NoMemory) e come = tt
+
+pub first_of_walk : (r : Result Unit EarlyEnd) (old ts : List Task) (ms : Marks) → old ≡ [] → IsSplit old ms ts → Comes (verdict ts top_scope []) r → IsFirst (faults_of (scope ms)) r
+first_of_walk r old ts ms e s come =
+    let same : verdict ts top_scope [] ≡ settle (judge top_scope ms) (λ t. None) = s.same top_scope [] ∙ ap (λ os. settle (judge top_scope ms) (λ t. verdict os t [])) e in
+    is_first (faults_of (scope ms)) (verdict ts top_scope []) r (top_is ms ∙ sym same) come

@@ -33,6 +33,12 @@ around_in (how.Function is_async) a = record { in_function = true; is_async = is
 abbrev pub entered : How → Scope → Scope
 entered h s = record { names = []; around = around_in h s.around }
 
+abbrev pub nothing_around : Around
+nothing_around = record { in_function = false; is_async = false; in_loop = false }
+
+abbrev pub top_scope : Scope
+top_scope = record { names = []; around = nothing_around }
+
 abbrev pub judge_name : Scope → Name → Result Scope EarlyFault
 judge_name s n = if has n.units s.names then Err (fault DoubleName n.place) else Ok (record { names = with_name s.names n.units; around = s.around })
 

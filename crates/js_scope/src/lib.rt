@@ -4,11 +4,15 @@
 mod fault;
 mod lists;
 mod names;
+mod program;
 mod scope;
 mod split;
 mod stack;
 mod stmts;
 mod task;
+#[cfg(test)]
+mod tests;
 mod walk;
 
 pub use fault::{EarlyEnd, EarlyFault, EarlyKind};
+pub use program::{Program, resolve};

@@ -1,5 +1,5 @@
 ghost use Rattle.std.specs.Prelude.{◌≡◌, [], OnOk};
-ghost use Rattle.js_scope.specs.Verdict.{allows, around_in, entered, judge_name, judge_word, Judges};
+ghost use Rattle.js_scope.specs.Verdict.{top_scope, allows, around_in, entered, judge_name, judge_word, Judges};
 
 use crate::fault::{EarlyEnd, EarlyFault, EarlyKind};
 use crate::names::Names;
@@ -56,6 +56,20 @@ pub(crate) struct Scope<'a> {
 }
 
 impl<'a> Scope<'a> {
+    /// The scope of a script's top level. It takes no memory.
+    pub(crate) fn top(alloc: Global) -> Scope<'a>
+        ensures { result ≡ top_scope }
+    {
+        Scope {
+            names: Names::new(alloc),
+            around: Around {
+                in_function: false,
+                is_async: false,
+                in_loop: false,
+            },
+        }
+    }
+
     /// The scope within this one that is opened so. It takes no memory.
     pub(crate) fn entered(&self, alloc: Global, how: How) -> Scope<'a>
         ensures { result ≡ entered how self.now }

@@ -5,9 +5,7 @@ ghost use Rattle.js_scope.specs.Verdict.{IsSplit, piece_marks};
 use crate::fault::{EarlyFault, EarlyKind};
 use crate::stack::Stack;
 use crate::task::{How, Piece, Task};
-use js_tree::{
-    ArrowBody, Expr, Function, Name, Target,
-};
+use js_tree::{ArrowBody, Expr, Function, Name, Target};
 use wd_base::NoMemory;
 
 /// Puts a piece on the tasks.

@@ -13,11 +13,7 @@ use wd_base::{NoMemory, Seq};
 
 /// Puts statements on the tasks that stand in a scope of their own.
 #[tactic(auto, using(crate::proofs::Splits::on_inside))]
-fn put_block<'a>(
-    tasks: &mut Stack<Task<'a>>,
-    how: How,
-    stmts: &'a [Stmt],
-) -> Result<(), NoMemory>
+fn put_block<'a>(tasks: &mut Stack<Task<'a>>, how: How, stmts: &'a [Stmt]) -> Result<(), NoMemory>
     ensures { OnOk result (IsSplit tasks.old (inside how (early.concat (map early.of_stmt stmts.now))) tasks.new) }
 {
     tasks.push(Task::Leave)?;
@@ -27,11 +23,7 @@ fn put_block<'a>(
 
 /// Puts a statement on the tasks that stands in a scope of its own.
 #[tactic(auto, using(crate::proofs::Splits::on_inside))]
-fn put_body<'a>(
-    tasks: &mut Stack<Task<'a>>,
-    how: How,
-    stmt: &'a Stmt,
-) -> Result<(), NoMemory>
+fn put_body<'a>(tasks: &mut Stack<Task<'a>>, how: How, stmt: &'a Stmt) -> Result<(), NoMemory>
     ensures { OnOk result (IsSplit tasks.old (inside how (early.of_stmt stmt.now)) tasks.new) }
 {
     tasks.push(Task::Leave)?;
@@ -41,10 +33,7 @@ fn put_body<'a>(
 
 /// Puts what stands behind `else` on the tasks.
 #[tactic(auto, using(crate::proofs::StmtSplits::elses))]
-fn put_else<'a>(
-    tasks: &mut Stack<Task<'a>>,
-    stmt: &'a Option<Boxed<Stmt>>,
-) -> Result<(), NoMemory>
+fn put_else<'a>(tasks: &mut Stack<Task<'a>>, stmt: &'a Option<Boxed<Stmt>>) -> Result<(), NoMemory>
     ensures { OnOk result (IsSplit tasks.old (early.else_of (option_map early.of_stmt stmt.now)) tasks.new) }
 {
     match stmt {
@@ -176,7 +165,10 @@ pub(crate) fn split_stmt<'a>(tasks: &mut Stack<Task<'a>>, stmt: &'a Stmt) -> Res
             body,
         } => put_for(tasks, begin, test, update, body.get()),
         Stmt::ForOf {
-            name, value, body, ..
+            name,
+            value,
+            body,
+            ..
         } => put_for_of(tasks, name, value, body.get()),
         Stmt::While(test, body) => {
             put_body(tasks, How::Loop, body.get())?;

@@ -1,6 +1,6 @@
 ghost use Rattle.std.specs.Prelude.{◌≡◌, [], ◌∷◌, map, OnOk};
 ghost use Rattle.js_scope.specs.Early as early;
-ghost use Rattle.js_scope.specs.Verdict.{IsSplit, Goes, Comes, answered, entered, judge, leave, piece_marks, settle, verdict};
+ghost use Rattle.js_scope.specs.Verdict.{IsSplit, Goes, Comes, answered, entered, judge, leave, piece_marks, settle, top_scope, verdict};
 
 use crate::fault::EarlyEnd;
 use crate::lists::{
@@ -96,5 +96,59 @@ fn put_item<'a>(tasks: &mut Stack<Task<'a>>, item: &'a Item) -> Result<(), NoMem
     match item {
         Item::Stmt(stmt) => put(tasks, Piece::Stmt(stmt)),
         Item::Export(properties) => put(tasks, Piece::Properties(properties.as_slice())),
+    }
+}
+
+/// Puts the items of a script on the tasks.
+fn put_items<'a>(tasks: &mut Stack<Task<'a>>, items: &'a [Item]) -> Result<(), NoMemory>
+    ensures { OnOk result (IsSplit tasks.old (early.concat (map early.of_item items.now)) tasks.new) }
+{
+    let mut left = items.len();
+    while left > 0 {
+        left -= 1;
+        put_item(tasks, &items[left])?;
+    }
+    Ok(())
+}
+
+/// Does all tasks.
+fn run<'a>(alloc: Global, walk: &mut Walk<'a>) -> Result<(), EarlyEnd>
+    ensures { Comes (verdict walk.old.tasks walk.old.scope walk.old.outer) result }
+{
+    for _ in 0..u64::MAX {
+        match walk.tasks.pop() {
+            None => return Ok(()),
+            Some(task) => {
+                if let Err(end) = step(alloc, walk, task) {
+                    return Err(end);
+                }
+            }
+        }
+    }
+    // No memory holds a script that takes so many steps.
+    Err(EarlyEnd::NoMemory)
+}
+
+/// Does all tasks, from a script's top level.
+fn run_from_top<'a>(alloc: Global, tasks: Stack<Task<'a>>) -> Result<(), EarlyEnd>
+    ensures { Comes (verdict tasks.entry top_scope []) result }
+{
+    let mut walk = Walk {
+        scope: Scope::top(alloc),
+        outer: Stack::new(alloc),
+        tasks,
+    };
+    run(alloc, &mut walk)
+}
+
+/// The first early fault of a script, as the error.
+#[tactic(auto, using(crate::proofs::WalkLaws::first_of_walk))]
+pub(crate) fn first_fault(alloc: Global, items: &[Item]) -> Result<(), EarlyEnd>
+    ensures { early.IsFirst (early.early_faults items.now) result }
+{
+    let mut tasks = Stack::new(alloc);
+    match put_items(&mut tasks, items) {
+        Ok(()) => run_from_top(alloc, tasks),
+        Err(NoMemory) => Err(EarlyEnd::NoMemory),
     }
 }
