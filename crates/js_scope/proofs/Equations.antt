@@ -27,7 +27,7 @@ use Rattle.js_tree.specs.declared.tree.Target.{Target}
 use Rattle.js_tree.specs.declared.tree.Target.TheVariants as target
 use Rattle.js_tree.specs.declared.tree.TemplateItem.{TemplateItem}
 use Rattle.js_scope.specs.declared.fault.EarlyKind.TheVariants.{AwaitOutside, BreakOutside, ReturnOutside}
-use Rattle.js_scope.specs.Early.{Marks, Declares, word, concat, optional, named, scope, loop_body, block, finally_of, else_of, function_of, declares, arrow_step, expr_step, begin_step, property_step, stmt_step, target_step, catch_step, declaration_step, function_step, template_step, of_arrow, of_expr, of_begin, of_property, of_stmt, of_target, of_catch, of_declaration, of_function, of_template}
+use Rattle.js_scope.specs.Early.{Marks, Declares, word, concat, optional, named, scope, loop_body, block, finally_of, else_of, function_of, arrow_step, expr_step, begin_step, property_step, stmt_step, target_step, catch_step, declaration_step, function_step, template_step, of_arrow, of_expr, of_begin, of_property, of_stmt, of_target, of_catch, of_declaration, of_function, of_template}
 
 pub name_marks : (n : Name) → of_expr (expr.Name n) ≡ []
 name_marks n = ap of_expr (sym (expr.rolls-Name n)) ∙ fold-roll-Expr Marks Marks Marks Marks Marks Marks Marks Marks Marks Marks arrow_step expr_step begin_step property_step stmt_step target_step catch_step declaration_step function_step template_step (Expr-F.Name n)

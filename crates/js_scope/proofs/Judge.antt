@@ -1,12 +1,10 @@
 -- What a scope shows to the outside, against a walk through it.
-use Rattle.std.proofs.Common.{◌≡◌, ℕ, Bool, true, false, ◌||◌, cond, List, [], ◌∷◌, ◌++◌, Option, Some, None, Result, Ok, Err, refl, sym, ap, ◌∙◌}
+use Rattle.std.proofs.Common.{◌≡◌, ℕ, Bool, true, false, ◌||◌, cond, List, [], ◌∷◌, ◌++◌, None, Result, Ok, Err, refl, sym, ap, ◌∙◌}
 use Rattle.std.specs.Prelude.{nat_eq}
 use Rattle.std.specs.Cmp.Lexicographic.{pointwise}
-use Rattle.js_tree.specs.declared.tree.Name.{Name}
 use Rattle.js_scope.specs.declared.fault.EarlyFault.{EarlyFault}
 use Rattle.js_scope.specs.declared.fault.EarlyKind.{EarlyKind}
 use Rattle.js_scope.specs.declared.fault.EarlyKind.TheVariants.{DoubleName, ReturnOutside, AwaitOutside, BreakOutside}
-use Rattle.js_scope.specs.declared.scope.Around.{Around}
 use Rattle.js_scope.specs.declared.scope.Scope.{Scope}
 use Rattle.js_scope.specs.declared.task.How.{How}
 use Rattle.js_scope.specs.declared.task.How.TheVariants as how

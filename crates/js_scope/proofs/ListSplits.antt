@@ -1,5 +1,5 @@
 -- The tasks of lists and of what they hold.
-use Rattle.std.proofs.Common.{◌≡◌, ◌≤◌, ◌-◌, arith, length, take, drop, get_or, List, [], ◌∷◌, ◌++◌, map, Option, Some, None, option_map, Result, OnOk, refl, sym, ap, ◌∙◌}
+use Rattle.std.proofs.Common.{◌≡◌, ◌≤◌, ◌-◌, arith, length, take, drop, get_or, List, [], ◌∷◌, map, Option, Some, None, option_map, Result, OnOk, sym, ap, ◌∙◌}
 use Rattle.std.proofs.Math.Seq.{take-length}
 use Rattle.js_tree.specs.declared.tree.Name.{Name}
 use Rattle.js_tree.specs.declared.tree.Key.{Key}

@@ -1,7 +1,5 @@
 -- How tasks are put together.
-use Rattle.std.proofs.Common.{◌≡◌, List, [], ◌∷◌, ◌++◌, Option, Some, Result, Ok, Err, refl, sym, ap, ◌∙◌}
-use Rattle.js_scope.specs.declared.fault.EarlyFault.{EarlyFault}
-use Rattle.js_scope.specs.declared.scope.Scope.{Scope}
+use Rattle.std.proofs.Common.{◌≡◌, List, [], ◌∷◌, ◌++◌, Ok, Err, refl, sym, ap, ◌∙◌}
 use Rattle.js_scope.specs.declared.task.How.{How}
 use Rattle.js_scope.specs.declared.task.Piece.{Piece}
 use Rattle.js_scope.specs.declared.task.Task.{Task}

@@ -1,14 +1,13 @@
 -- A step of a walk.
-use Rattle.std.proofs.Common.{◌≡◌, List, [], ◌∷◌, Option, Some, None, Result, Ok, Err, OnOk, refl, sym, ap, ◌∙◌}
+use Rattle.std.proofs.Common.{◌≡◌, List, [], ◌∷◌, Option, None, Result, Ok, Err, OnOk, refl, sym, ap, ◌∙◌}
 use Rattle.js_tree.specs.declared.tree.Name.{Name}
 use Rattle.js_scope.specs.declared.fault.EarlyEnd.{EarlyEnd}
 use Rattle.js_scope.specs.declared.fault.EarlyEnd.TheVariants.{Fault, NoMemory}
 use Rattle.js_scope.specs.declared.fault.EarlyFault.{EarlyFault}
 use Rattle.js_scope.specs.declared.scope.Scope.{Scope}
-use Rattle.js_scope.specs.declared.task.Piece.{Piece}
 use Rattle.js_scope.specs.declared.task.Task.{Task}
 use Rattle.js_scope.specs.Early.{Marks, Declares, Unless, IsFirst, faults_of, first, scope}
-use Rattle.js_scope.specs.Verdict.{Comes, Goes, Judges, top_scope, IsSplit, answered, and_then, judge, judge_mark, judge_name, judge_word, settle, verdict}
+use Rattle.js_scope.specs.Verdict.{Comes, Goes, Judges, top_scope, IsSplit, answered, and_then, judge, judge_name, judge_word, settle, verdict}
 use Rattle.js_scope.proofs.Judge.{Judged, top_is}
 
 -- a piece of one mark

@@ -107,7 +107,7 @@ named (Some n) = Declares n ∷ []
 abbrev pub function_of : Bool → List Name → Marks → Marks
 function_of is_async parameters body = function is_async (scope (declares parameters ++ body))
 
--- a body that is no block is seen as a block
+-- the body of a loop, which is seen as if it stood in braces
 abbrev pub loop_body : Marks → Marks
 loop_body ms = loop (scope ms)
 
@@ -180,6 +180,7 @@ abbrev pub else_of : Option Marks → Marks
 else_of None = []
 else_of (Some s) = scope s
 
+-- the bodies of `if` and `else` are seen as if they stood in braces; each `for` is one scope
 abbrev pub stmt_step : Stmt-F Marks Marks Marks Marks Marks Marks Marks Marks Marks Marks → Marks
 stmt_step (Stmt-F.Declare kind ds) = concat ds
 stmt_step (Stmt-F.DeclareFunction n f) = Declares n ∷ f

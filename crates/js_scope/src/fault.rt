@@ -1,5 +1,3 @@
-use wd_base::NoMemory;
-
 /// What is at fault in a script that the grammar allows.
 #[derive(Clone, Copy, Debug, PartialEq, Eq)]
 pub enum EarlyKind {
@@ -26,10 +24,4 @@ pub struct EarlyFault {
 pub enum EarlyEnd {
     Fault(EarlyFault),
     NoMemory,
-}
-
-impl From<NoMemory> for EarlyEnd {
-    fn from(_error: NoMemory) -> EarlyEnd {
-        EarlyEnd::NoMemory
-    }
 }

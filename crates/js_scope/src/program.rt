@@ -8,7 +8,7 @@ use std::alloc::Global;
 use std::marker::Model;
 
 /// A script without early faults. Contracts see it as its tree.
-#[derive(Drop)]
+#[derive(Debug, Drop)]
 pub struct Program {
     tree: Tree,
 }

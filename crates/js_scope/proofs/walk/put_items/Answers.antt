@@ -1,4 +1,4 @@
-use Rattle.std.proofs.Common.{◌≡◌, ◌+◌, ◌-◌, ◌<◌, ◌∷◌, suc, map, length, drop, drop-cons, get_or, sym, ap, ◌∙◌, subst, arith}
+use Rattle.std.proofs.Common.{◌≡◌, ◌-◌, ◌<◌, ◌∷◌, suc, map, length, drop, drop-cons, sym, ap, ◌∙◌, subst, arith}
 use Rattle.js_scope.specs.Early.{concat, of_item}
 use Rattle.js_scope.specs.Verdict.{IsSplit}
 use Rattle.js_scope.proofs.SplitLaws.{split_then}

@@ -1,5 +1,5 @@
-use Rattle.std.proofs.Common.{◌≡◌, not, refl, sym, ap, ◌∙◌}
-use Rattle.js_scope.proofs.NameLemmas.{texts_insert, texts_any, texts, by_text}
+use Rattle.std.proofs.Common.{not, ap, ◌∙◌}
+use Rattle.js_scope.proofs.NameLemmas.{texts_insert, texts_any, texts}
 use Rattle.js_scope.specs.Names.{has, with_name}
 use Rattle.js_scope.proofs.names.Names.add.Goals as goal
 use Rattle.js_scope.proofs.names.Names.add.Goals.{in-Ok, in-Err}
