@@ -1,0 +1,2 @@
+//! The one tree of a script, or its first fault. `docs/SCRIPTS.md` describes the grammar.
+#![tactic(auto)]
