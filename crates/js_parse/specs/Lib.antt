@@ -1,2 +1,5 @@
 pub mod Marks
 pub mod Grammar
+pub mod Shapes
+pub mod Script
+pub mod Fault
