@@ -18,3 +18,7 @@ front_last (x ∷ s) =
 
 pub last_first : {A : Type 0} → (s : List A) → slice_get s (length s - 1) ≡ slice_get (reverse s) 0
 last_first s = ap (λ z. slice_get z (length z - 1)) (sym (reverse-reverse s)) ∙ front_last (reverse s)
+
+pub empty_back : {A : Type 0} → (s : List A) → reverse s ≡ [] → s ≡ []
+empty_back [] e = refl
+empty_back (x ∷ s) e = let f : length (reverse s ++ x ∷ []) ≡ length (reverse s) + 1 = length-append (reverse s) (x ∷ []) in let g : length (reverse s ++ x ∷ []) ≡ 0 = ap length (sym (reverse-append (x ∷ []) s) ∙ e) in absurd (omega (arith, f, g))

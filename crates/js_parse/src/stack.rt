@@ -1,4 +1,4 @@
-ghost use Rattle.std.specs.Prelude.{◌≡◌, [], ◌∷◌, slice_get, IfOk, MatchOption, reverse};
+ghost use Rattle.std.specs.Prelude.{◌≡◌, ◌↔◌, [], ◌∷◌, slice_get, IfOk, IsTrue, MatchOption, reverse};
 ghost use Rattle.std.specs.Option.{option_copied};
 
 use std::alloc::Global;
@@ -30,6 +30,14 @@ impl<T> Stack<T> {
         Stack {
             items: Vec::new(alloc),
         }
+    }
+
+    /// There is no item.
+    #[tactic(auto, using(crate::proofs::Back::empty_back))]
+    pub fn is_empty(&self) -> bool
+        ensures { IsTrue result ↔ (self.now ≡ []) }
+    {
+        self.items.is_empty()
     }
 
     /// The last item.

@@ -1,0 +1,482 @@
+use crate::letters::reserved_letters;
+use crate::machine::{
+    At, Block, Callee, Cover, Frame, Head, Operator, Outer, Purpose, Refusal, StepEnd, Tail,
+};
+use crate::outer::{
+    Position, Step, begins_statement, boxed, constructs, in_body, is_reserved, is_sign, is_whole,
+    name_at, open_block, pop, position, push, refuse, refuse_at, refused, to, wait, wait_operand,
+    wait_tail, with,
+};
+use crate::values::{after_value, after_whole};
+use js_lex::{Punctuator, Reserved, TemplatePart, Token, TokenKind};
+use js_tree::{
+    AssignOp, BinaryOp, Expr, Name, Target, UnaryOp, UpdateOp, UpdateSide,
+};
+use js_words::Spot;
+use std::alloc::Global;
+use wd_base::{NoMemory, Seq, TryClone, Units};
+
+/// An operand without calls and member accesses was read.
+fn operand(outer: Outer, value: Expr) -> Step {
+    to(outer, At::Operand(value, 0))
+}
+
+fn is_async(units: &Units) -> bool {
+    js_lex::same_text(units.as_slice(), b"async")
+}
+
+fn begin_name(alloc: Global, outer: Outer, place: usize, units: &Units) -> Step {
+    let name = name_at(alloc, place, units)?;
+    if is_async(units) {
+        to(outer, At::Async(name))
+    } else {
+        operand(outer, Expr::Name(name))
+    }
+}
+
+fn begin_template(alloc: Global, outer: Outer, part: TemplatePart, units: &Units) -> Step {
+    let units = units.try_clone(alloc)?;
+    match part {
+        TemplatePart::Whole => operand(outer, Expr::Template(Seq::new(alloc), units)),
+        TemplatePart::Head => wait(outer, 1, Purpose::Hole(Seq::new(alloc), units)),
+        TemplatePart::Middle | TemplatePart::Tail => refuse_at(Spot::ExpressionBegin),
+    }
+}
+
+/// A prefix operator, which stands not behind `++` or `--`.
+fn prefix(outer: Outer, operator: Operator) -> Step {
+    match position(&outer) {
+        Position::Target => refuse_at(Spot::ExpressionBegin),
+        Position::Whole | Position::Operand => wait_operand(outer, 1, operator),
+    }
+}
+
+fn begin_by_word(outer: Outer, place: usize, word: Reserved) -> Step {
+    match word {
+        Reserved::True => operand(outer, Expr::True),
+        Reserved::False => operand(outer, Expr::False),
+        Reserved::Null => operand(outer, Expr::Null),
+        Reserved::This => operand(outer, Expr::This),
+        Reserved::Function => to(outer, At::FunctionName(false, false)),
+        Reserved::New => to(outer, At::NewName),
+        Reserved::TypeOf => prefix(outer, Operator::Unary(UnaryOp::TypeOf)),
+        Reserved::Await => prefix(outer, Operator::Await(place)),
+        _ => refuse_at(Spot::ExpressionBegin),
+    }
+}
+
+/// `(` where an operand begins: a group, or the parameters of an arrow where one may stand.
+fn begin_paren(alloc: Global, outer: Outer) -> Step {
+    if is_whole(&outer) {
+        to(outer, At::CoverOpen(Cover::Plain, Seq::new(alloc)))
+    } else {
+        wait(outer, 1, Purpose::Group)
+    }
+}
+
+fn begin_by_sign(alloc: Global, outer: Outer, sign: Punctuator) -> Step {
+    match sign {
+        Punctuator::OpenParen => begin_paren(alloc, outer),
+        Punctuator::OpenBracket => to(outer, At::NextElement(Seq::new(alloc))),
+        Punctuator::OpenBrace => to(outer, At::Key(Seq::new(alloc))),
+        Punctuator::Not => prefix(outer, Operator::Unary(UnaryOp::Not)),
+        Punctuator::Minus => prefix(outer, Operator::Unary(UnaryOp::Negate)),
+        Punctuator::PlusPlus => prefix(outer, Operator::Update(UpdateOp::Increment)),
+        Punctuator::MinusMinus => prefix(outer, Operator::Update(UpdateOp::Decrement)),
+        _ => refuse_at(Spot::ExpressionBegin),
+    }
+}
+
+/// An operand begins.
+pub fn begin(alloc: Global, outer: Outer, token: &Token) -> Step {
+    match &token.kind {
+        TokenKind::Name(units) => begin_name(alloc, outer, token.place, units),
+        TokenKind::Number(number) => operand(outer, Expr::Number(*number)),
+        TokenKind::Text(units) => {
+            let units = units.try_clone(alloc)?;
+            operand(outer, Expr::Text(units))
+        }
+        TokenKind::Template(part, units) => begin_template(alloc, outer, *part, units),
+        TokenKind::Reserved(word) => begin_by_word(outer, token.place, *word),
+        TokenKind::Punctuator(sign) => begin_by_sign(alloc, outer, *sign),
+        _ => refuse_at(Spot::ExpressionBegin),
+    }
+}
+
+fn assign_op(sign: Punctuator) -> Option<AssignOp> {
+    match sign {
+        Punctuator::Equal => Some(AssignOp::Set),
+        Punctuator::PlusEqual => Some(AssignOp::Add),
+        Punctuator::MinusEqual => Some(AssignOp::Subtract),
+        _ => None,
+    }
+}
+
+/// `=`, `+=` or `-=` behind an operand.
+fn assign(alloc: Global, outer: Outer, op: AssignOp, value: Expr, token: &Token) -> Step {
+    if !is_whole(&outer) {
+        return after_whole(alloc, outer, value, token);
+    }
+    match value.into_target() {
+        Ok(target) => wait_tail(outer, Tail::Assign(op, target)),
+        Err(value) => after_whole(alloc, outer, value, token),
+    }
+}
+
+/// `++` or `--` behind an operand.
+fn update(alloc: Global, outer: Outer, op: UpdateOp, value: Expr, token: &Token) -> Step {
+    if token.after_line_end {
+        return after_whole(alloc, outer, value, token);
+    }
+    match position(&outer) {
+        Position::Target => after_whole(alloc, outer, value, token),
+        Position::Whole | Position::Operand => match value.into_target() {
+            Ok(target) => to(
+                outer,
+                At::Updated(Expr::Update(UpdateSide::Behind, op, target)),
+            ),
+            Err(value) => after_whole(alloc, outer, value, token),
+        },
+    }
+}
+
+/// `=>` behind an operand: a name is the parameter of an arrow, where one may stand.
+fn arrow_behind(alloc: Global, outer: Outer, value: Expr, token: &Token) -> Step {
+    if token.after_line_end || !is_whole(&outer) {
+        return after_whole(alloc, outer, value, token);
+    }
+    match value {
+        Expr::Name(name) => {
+            let parameters = with(Seq::new(alloc), name)?;
+            to(outer, At::ArrowBody(false, parameters))
+        }
+        value => after_whole(alloc, outer, value, token),
+    }
+}
+
+/// A token behind an operand, whose chain has so many calls and member accesses.
+pub fn after_operand(
+    alloc: Global,
+    outer: Outer,
+    value: Expr,
+    accesses: usize,
+    token: &Token,
+) -> Step {
+    let sign = match &token.kind {
+        TokenKind::Punctuator(sign) => *sign,
+        _ => return after_whole(alloc, outer, value, token),
+    };
+    match sign {
+        Punctuator::Dot => to(outer, At::MemberName(value, accesses)),
+        Punctuator::OpenParen => to(
+            outer,
+            At::NextArgument(Callee::Value(value, accesses), Seq::new(alloc)),
+        ),
+        Punctuator::OpenBracket => wait(
+            outer,
+            accesses.saturating_add(1),
+            Purpose::Index(value, accesses),
+        ),
+        Punctuator::PlusPlus => update(alloc, outer, UpdateOp::Increment, value, token),
+        Punctuator::MinusMinus => update(alloc, outer, UpdateOp::Decrement, value, token),
+        Punctuator::Arrow => arrow_behind(alloc, outer, value, token),
+        _ => match assign_op(sign) {
+            Some(op) => assign(alloc, outer, op, value, token),
+            None => after_value(alloc, outer, value, token),
+        },
+    }
+}
+
+/// Behind the name `async`, where an operand began with it.
+pub fn after_async(alloc: Global, outer: Outer, name: Name, token: &Token) -> Step {
+    if token.after_line_end {
+        return after_operand(alloc, outer, Expr::Name(name), 0, token);
+    }
+    match &token.kind {
+        TokenKind::Reserved(word) => match word {
+            Reserved::Function => async_function(outer),
+            _ => after_operand(alloc, outer, Expr::Name(name), 0, token),
+        },
+        TokenKind::Name(units) => {
+            if !is_whole(&outer) {
+                return after_operand(alloc, outer, Expr::Name(name), 0, token);
+            }
+            let parameter = name_at(alloc, token.place, units)?;
+            to(outer, At::Arrow(true, with(Seq::new(alloc), parameter)?))
+        }
+        TokenKind::Punctuator(sign) => match sign {
+            Punctuator::OpenParen => async_paren(alloc, outer, name),
+            _ => after_operand(alloc, outer, Expr::Name(name), 0, token),
+        },
+        _ => after_operand(alloc, outer, Expr::Name(name), 0, token),
+    }
+}
+
+/// `async` `function` at the begin of a statement declares, and stands not as a body.
+fn async_function(outer: Outer) -> Step {
+    if !begins_statement(&outer) {
+        return to(outer, At::FunctionName(false, true));
+    }
+    let (outer, _) = pop(outer);
+    if in_body(&outer) {
+        return refuse();
+    }
+    to(outer, At::FunctionName(true, true))
+}
+
+/// `async` `(`: a call, or the parameters of an arrow where one may stand.
+fn async_paren(alloc: Global, outer: Outer, name: Name) -> Step {
+    if is_whole(&outer) {
+        return to(outer, At::CoverOpen(Cover::Async(name), Seq::new(alloc)));
+    }
+    let callee = Callee::Value(Expr::Name(name), 0);
+    to(outer, At::NextArgument(callee, Seq::new(alloc)))
+}
+
+fn as_values(alloc: Global, names: Seq<Name>) -> Result<Seq<Expr>, NoMemory> {
+    let mut values = Seq::new(alloc);
+    for name in names.into_vec() {
+        values.push(Expr::Name(name))?;
+    }
+    Ok(values)
+}
+
+/// The names were values: the brackets are a group, or those of a call.
+fn uncover(alloc: Global, outer: Outer, cover: Cover, names: Seq<Name>) -> Result<Outer, StepEnd> {
+    let purpose = match cover {
+        Cover::Plain => Purpose::Group,
+        Cover::Async(name) => {
+            let callee = Callee::Value(Expr::Name(name), 0);
+            Purpose::Argument(callee, as_values(alloc, names)?)
+        }
+    };
+    Ok(push(outer, 1, Frame::Purpose(purpose))?)
+}
+
+/// A value other than a name may stand in the brackets.
+fn may_be_values(cover: &Cover, names: &Seq<Name>) -> bool {
+    match cover {
+        Cover::Plain => names.is_empty(),
+        Cover::Async(_) => true,
+    }
+}
+
+/// Behind `(` or a comma, where names may be parameters.
+pub fn on_cover_open(
+    alloc: Global,
+    outer: Outer,
+    cover: Cover,
+    names: Seq<Name>,
+    token: &Token,
+) -> Step {
+    if let TokenKind::Name(units) = &token.kind {
+        let name = name_at(alloc, token.place, units)?;
+        return to(outer, At::CoverName(cover, names, name));
+    }
+    if is_sign(token, Punctuator::CloseParen) {
+        return to(outer, At::Covered(cover, names, false));
+    }
+    if may_be_values(&cover, &names) {
+        return begin(alloc, uncover(alloc, outer, cover, names)?, token);
+    }
+    refuse_at(Spot::Parameter)
+}
+
+/// Behind a name that may be a parameter.
+pub fn on_cover_name(
+    alloc: Global,
+    outer: Outer,
+    cover: Cover,
+    names: Seq<Name>,
+    last: Name,
+    token: &Token,
+) -> Step {
+    if is_sign(token, Punctuator::Comma) {
+        return to(outer, At::CoverOpen(cover, with(names, last)?));
+    }
+    if is_sign(token, Punctuator::CloseParen) {
+        let is_alone = names.is_empty();
+        return to(outer, At::Covered(cover, with(names, last)?, is_alone));
+    }
+    if !may_be_values(&cover, &names) {
+        return refuse_at(Spot::Parameter);
+    }
+    let outer = uncover(alloc, outer, cover, names)?;
+    if is_async(&last.units) {
+        after_async(alloc, outer, last, token)
+    } else {
+        after_operand(alloc, outer, Expr::Name(last), 0, token)
+    }
+}
+
+fn last_of(names: Seq<Name>) -> Option<Name> {
+    let mut names = names.into_vec();
+    names.pop()
+}
+
+/// Behind brackets round names: parameters, or a group or a call.
+pub fn on_covered(
+    alloc: Global,
+    outer: Outer,
+    cover: Cover,
+    names: Seq<Name>,
+    is_alone: bool,
+    token: &Token,
+) -> Step {
+    if is_sign(token, Punctuator::Arrow) && !token.after_line_end {
+        let is_async = match cover {
+            Cover::Plain => false,
+            Cover::Async(_) => true,
+        };
+        return to(outer, At::ArrowBody(is_async, names));
+    }
+    match cover {
+        Cover::Async(name) => {
+            let callee = boxed(alloc, Expr::Name(name))?;
+            let call = Expr::Call(callee, as_values(alloc, names)?);
+            after_operand(alloc, outer, call, 1, token)
+        }
+        Cover::Plain => {
+            if !is_alone {
+                return refuse();
+            }
+            match last_of(names) {
+                Some(name) => {
+                    let group = Expr::Group(boxed(alloc, Expr::Name(name))?);
+                    after_operand(alloc, outer, group, 0, token)
+                }
+                None => refuse(),
+            }
+        }
+    }
+}
+
+/// Behind the parameters of an arrow.
+pub fn on_arrow(outer: Outer, is_async: bool, parameters: Seq<Name>, token: &Token) -> Step {
+    if is_sign(token, Punctuator::Arrow) && !token.after_line_end {
+        return to(outer, At::ArrowBody(is_async, parameters));
+    }
+    refuse()
+}
+
+/// Behind `=>`. A body without braces is a construct from the arrow on.
+pub fn on_arrow_body(
+    alloc: Global,
+    outer: Outer,
+    is_async: bool,
+    parameters: Seq<Name>,
+    most: usize,
+    token: &Token,
+) -> Step {
+    if is_sign(token, Punctuator::OpenBrace) {
+        return open_block(alloc, outer, 1, Block::Arrow(is_async, parameters));
+    }
+    let is_full = constructs(&outer) >= most;
+    let outer = push(outer, 1, Frame::Tail(Tail::Arrow(is_async, parameters)))?;
+    let state = begin(alloc, outer, token)?;
+    if is_full {
+        return refused(Refusal::NestingBefore);
+    }
+    Ok(state)
+}
+
+/// Behind `new`.
+pub fn on_new(alloc: Global, outer: Outer, token: &Token) -> Step {
+    match &token.kind {
+        TokenKind::Name(units) => {
+            let name = name_at(alloc, token.place, units)?;
+            to(outer, At::NewOpen(name))
+        }
+        _ => refuse(),
+    }
+}
+
+/// Behind `new name`.
+pub fn on_new_open(alloc: Global, outer: Outer, name: Name, token: &Token) -> Step {
+    if is_sign(token, Punctuator::OpenParen) {
+        let callee = Callee::New(name);
+        return to(outer, At::NextArgument(callee, Seq::new(alloc)));
+    }
+    refuse()
+}
+
+/// A name, or a reserved word as one (ECMA-262, section 12.7, IdentifierName).
+pub fn any_name(alloc: Global, token: &Token) -> Result<Option<Name>, NoMemory> {
+    match &token.kind {
+        TokenKind::Name(units) => Ok(Some(name_at(alloc, token.place, units)?)),
+        TokenKind::Reserved(word) => {
+            let units = units_of_letters(alloc, reserved_letters(*word))?;
+            let place = token.place;
+            Ok(Some(Name { place, units }))
+        }
+        _ => Ok(None),
+    }
+}
+
+pub fn units_of_letters(alloc: Global, letters: &[u8]) -> Result<Units, NoMemory> {
+    let mut units = Seq::new(alloc);
+    for letter in letters {
+        units.push(u16::from(*letter))?;
+    }
+    Ok(units)
+}
+
+/// Behind `.`.
+pub fn on_member(
+    alloc: Global,
+    outer: Outer,
+    object: Expr,
+    accesses: usize,
+    token: &Token,
+) -> Step {
+    match any_name(alloc, token)? {
+        Some(name) => {
+            let member = Expr::Member(boxed(alloc, object)?, name);
+            to(outer, At::Operand(member, accesses.saturating_add(1)))
+        }
+        None => refuse(),
+    }
+}
+
+/// The call, or the `new`, whose arguments are whole.
+pub fn call(alloc: Global, outer: Outer, callee: Callee, arguments: Seq<Expr>) -> Step {
+    match callee {
+        Callee::Value(value, accesses) => {
+            let call = Expr::Call(boxed(alloc, value)?, arguments);
+            to(outer, At::Operand(call, accesses.saturating_add(1)))
+        }
+        Callee::New(name) => operand(outer, Expr::New(name, arguments)),
+    }
+}
+
+fn callee_accesses(callee: &Callee) -> usize {
+    match callee {
+        Callee::Value(_, accesses) => *accesses,
+        Callee::New(_) => 0,
+    }
+}
+
+/// Behind `(` or a comma, where an argument or `)` stands.
+pub fn on_argument(
+    alloc: Global,
+    outer: Outer,
+    callee: Callee,
+    arguments: Seq<Expr>,
+    token: &Token,
+) -> Step {
+    if is_sign(token, Punctuator::CloseParen) {
+        return call(alloc, outer, callee, arguments);
+    }
+    let more = callee_accesses(&callee).saturating_add(1);
+    let purpose = Purpose::Argument(callee, arguments);
+    begin(alloc, push(outer, more, Frame::Purpose(purpose))?, token)
+}
+
+/// Behind `[` or a comma, where an item or `]` stands.
+pub fn on_element(alloc: Global, outer: Outer, items: Seq<Expr>, token: &Token) -> Step {
+    if is_sign(token, Punctuator::CloseBracket) {
+        return operand(outer, Expr::Array(items));
+    }
+    let purpose = Purpose::Element(items);
+    begin(alloc, push(outer, 1, Frame::Purpose(purpose))?, token)
+}

@@ -1,0 +1,533 @@
+use crate::expressions::begin;
+use crate::machine::{
+    Asked, At, Block, Body, Declared, Frame, Head, Opening, Outer, Purpose, Refusal, State, StepEnd,
+};
+use crate::outer::{
+    Step, boxed, complete, in_body, is_reserved, is_sign, name_at, open_block, pop, push, refuse,
+    refuse_at, refused, settle, to, wait, wait_body, with,
+};
+use js_lex::{Punctuator, Reserved, Token, TokenKind};
+use js_tree::{
+    ArrowBody, Catch, DeclareKind, Declaration, Expr, ForBegin, Function, Item, Name, Property, Stmt,
+};
+use js_words::Spot;
+use std::alloc::Global;
+use wd_base::Seq;
+
+fn not_in_body(outer: Outer, at: At) -> Step {
+    if in_body(&outer) {
+        refuse_at(Spot::StatementBegin)
+    } else {
+        to(outer, at)
+    }
+}
+
+fn declare(alloc: Global, outer: Outer, kind: DeclareKind, in_for: bool) -> Step {
+    let declared = Declared {
+        kind,
+        in_for,
+        declarations: Seq::new(alloc),
+    };
+    to(outer, At::DeclaredName(declared))
+}
+
+/// `export` stands at the top level, and once at most.
+fn on_export(outer: Outer) -> Step {
+    if outer.frames.is_empty() && !outer.exported {
+        to(outer, At::ExportDefault)
+    } else {
+        refuse_at(Spot::StatementBegin)
+    }
+}
+
+fn expression_statement(alloc: Global, outer: Outer, token: &Token) -> Step {
+    let outer = push(outer, 0, Frame::Purpose(Purpose::Statement))?;
+    begin(alloc, outer, token)
+}
+
+fn begin_by_word(alloc: Global, outer: Outer, word: Reserved, token: &Token) -> Step {
+    match word {
+        Reserved::If => to(outer, At::Opening(Opening::If)),
+        Reserved::While => to(outer, At::Opening(Opening::While)),
+        Reserved::For => to(outer, At::Opening(Opening::For)),
+        Reserved::Break => to(outer, At::Jump(Stmt::Break(token.place))),
+        Reserved::Continue => to(outer, At::Jump(Stmt::Continue(token.place))),
+        Reserved::Return => to(outer, At::Return(token.place)),
+        Reserved::Throw => to(outer, At::Throw),
+        Reserved::Try => to(outer, At::TryOpen),
+        Reserved::Function => not_in_body(outer, At::FunctionName(true, false)),
+        Reserved::Export => on_export(outer),
+        Reserved::Let => {
+            if in_body(&outer) {
+                return refuse_at(Spot::StatementBegin);
+            }
+            declare(alloc, outer, DeclareKind::Let, false)
+        }
+        Reserved::Const => {
+            if in_body(&outer) {
+                return refuse_at(Spot::StatementBegin);
+            }
+            declare(alloc, outer, DeclareKind::Const, false)
+        }
+        _ => expression_statement(alloc, outer, token),
+    }
+}
+
+/// `{` as the begin of a statement: the braces of a body are the body.
+fn begin_block(alloc: Global, outer: Outer) -> Step {
+    let more = if in_body(&outer) { 0 } else { 1 };
+    open_block(alloc, outer, more, Block::Plain)
+}
+
+/// The end of the script, where a statement may begin.
+fn end_script(outer: Outer) -> Step {
+    if outer.frames.is_empty() {
+        to(outer, At::Statement)
+    } else {
+        refuse_at(Spot::StatementBegin)
+    }
+}
+
+/// A statement begins.
+pub fn on_statement(alloc: Global, outer: Outer, token: &Token) -> Step {
+    match &token.kind {
+        TokenKind::Punctuator(sign) => match sign {
+            Punctuator::OpenBrace => begin_block(alloc, outer),
+            Punctuator::CloseBrace => close_block(alloc, outer),
+            Punctuator::Semicolon => complete(alloc, outer, Stmt::Empty),
+            _ => expression_statement(alloc, outer, token),
+        },
+        TokenKind::Reserved(word) => begin_by_word(alloc, outer, *word, token),
+        TokenKind::End => end_script(outer),
+        _ => expression_statement(alloc, outer, token),
+    }
+}
+
+/// The function whose body ends.
+fn close_function(
+    alloc: Global,
+    outer: Outer,
+    head: Head,
+    parameters: Seq<Name>,
+    body: Seq<Stmt>,
+) -> Step {
+    match head {
+        Head::Declaration(is_async, name) => {
+            let function = Function {
+                is_async,
+                parameters,
+                body,
+            };
+            complete(alloc, outer, Stmt::DeclareFunction(name, function))
+        }
+        Head::Expression(is_async, name) => {
+            let function = Function {
+                is_async,
+                parameters,
+                body,
+            };
+            to(outer, At::Operand(Expr::Function(name, function), 0))
+        }
+        Head::Method(is_async, members, key) => {
+            let function = Function {
+                is_async,
+                parameters,
+                body,
+            };
+            let members = with(members, Property::Method(key, function))?;
+            to(outer, At::PropertyEnd(members))
+        }
+    }
+}
+
+/// The statements between braces are whole.
+fn close(alloc: Global, outer: Outer, block: Block, body: Seq<Stmt>) -> Step {
+    match block {
+        Block::Plain => complete(alloc, outer, Stmt::Block(body)),
+        Block::Function(head, parameters) => close_function(alloc, outer, head, parameters, body),
+        Block::Arrow(is_async, parameters) => {
+            let body = ArrowBody::Statements(body);
+            let arrow = Expr::Arrow {
+                is_async,
+                parameters,
+                body,
+            };
+            to(outer, At::Whole(arrow))
+        }
+        Block::Try => to(outer, At::AfterTry(body)),
+        Block::Catch(tried, name) => to(outer, At::AfterCatch(tried, Catch { name, body })),
+        Block::Finally(tried, catch) => {
+            let stmt = Stmt::Try {
+                body: tried,
+                catch,
+                finally: Some(body),
+            };
+            complete(alloc, outer, stmt)
+        }
+    }
+}
+
+fn close_block(alloc: Global, outer: Outer) -> Step {
+    let (outer, frame) = pop(outer);
+    match frame {
+        Some(Frame::Block(block, body)) => close(alloc, outer, block, body),
+        _ => refuse_at(Spot::StatementBegin),
+    }
+}
+
+/// An automatic end may stand before the token (ECMA-262, section 12.10).
+fn may_end(token: &Token) -> bool {
+    match &token.kind {
+        TokenKind::End => true,
+        _ => token.after_line_end || is_sign(token, Punctuator::CloseBrace),
+    }
+}
+
+/// A token that is refused on its line is refused behind its line end too.
+fn behind_end(step: Step, why: Refusal) -> Step {
+    match step {
+        Err(StepEnd::Refused(Refusal::Token(_))) => refused(with_end(why)),
+        step => step,
+    }
+}
+
+fn with_end(why: Refusal) -> Refusal {
+    match why {
+        Refusal::Token(asked) => Refusal::Token(Asked {
+            before: asked.before,
+            here: asked.here,
+            ended: true,
+        }),
+        why => why,
+    }
+}
+
+/// The token stands behind a statement that is whole, and that an `else` may follow.
+pub fn resume(alloc: Global, outer: Outer, stmt: Stmt, token: &Token) -> Step {
+    if is_reserved(token, Reserved::Else) {
+        let State { outer, at } = complete(alloc, outer, stmt)?;
+        return match at {
+            At::AfterThen(test, yes) => wait_body(outer, Body::Else(test, yes)),
+            _ => refuse_at(Spot::StatementBegin),
+        };
+    }
+    let State { outer, at: _ } = settle(alloc, outer, stmt)?;
+    on_statement(alloc, outer, token)
+}
+
+/// The statement is whole but for its end. A token that is no end is refused for this reason.
+pub fn end(alloc: Global, outer: Outer, stmt: Stmt, token: &Token, why: Refusal) -> Step {
+    if is_sign(token, Punctuator::Semicolon) {
+        return complete(alloc, outer, stmt);
+    }
+    if may_end(token) {
+        return behind_end(resume(alloc, outer, stmt, token), why);
+    }
+    refused(why)
+}
+
+/// Behind the first branch of an `if`.
+pub fn after_then(alloc: Global, outer: Outer, test: Expr, yes: Stmt, token: &Token) -> Step {
+    if is_reserved(token, Reserved::Else) {
+        return wait_body(outer, Body::Else(test, yes));
+    }
+    resume(alloc, outer, Stmt::If(test, boxed(alloc, yes)?, None), token)
+}
+
+/// Behind `if`, `while` or `for`.
+pub fn on_opening(outer: Outer, opening: Opening, token: &Token) -> Step {
+    if !is_sign(token, Punctuator::OpenParen) {
+        return refuse();
+    }
+    match opening {
+        Opening::If => wait(outer, 1, Purpose::If),
+        Opening::While => wait(outer, 1, Purpose::While),
+        Opening::For => to(outer, At::ForHead),
+    }
+}
+
+fn for_start(alloc: Global, outer: Outer, token: &Token) -> Step {
+    let outer = push(outer, 1, Frame::Purpose(Purpose::ForStart))?;
+    begin(alloc, outer, token)
+}
+
+/// Behind `for (`.
+pub fn on_for_head(alloc: Global, outer: Outer, token: &Token) -> Step {
+    match &token.kind {
+        TokenKind::Reserved(word) => match word {
+            Reserved::Let => declare(alloc, outer, DeclareKind::Let, true),
+            Reserved::Const => declare(alloc, outer, DeclareKind::Const, true),
+            _ => for_start(alloc, outer, token),
+        },
+        TokenKind::Punctuator(sign) => match sign {
+            Punctuator::Semicolon => to(outer, At::ForTest(ForBegin::Nothing)),
+            _ => for_start(alloc, outer, token),
+        },
+        _ => for_start(alloc, outer, token),
+    }
+}
+
+/// Behind `for (begin;`.
+pub fn on_for_test(alloc: Global, outer: Outer, start: ForBegin, token: &Token) -> Step {
+    if is_sign(token, Punctuator::Semicolon) {
+        return to(outer, At::ForUpdate(start, None));
+    }
+    let outer = push(outer, 1, Frame::Purpose(Purpose::ForTest(start)))?;
+    begin(alloc, outer, token)
+}
+
+/// Behind `for (begin; test;`.
+pub fn on_for_update(
+    alloc: Global,
+    outer: Outer,
+    start: ForBegin,
+    test: Option<Expr>,
+    token: &Token,
+) -> Step {
+    if is_sign(token, Punctuator::CloseParen) {
+        return wait_body(outer, Body::For(start, test, None));
+    }
+    let outer = push(outer, 1, Frame::Purpose(Purpose::ForUpdate(start, test)))?;
+    begin(alloc, outer, token)
+}
+
+/// Behind `return`.
+pub fn on_return(alloc: Global, outer: Outer, place: usize, token: &Token) -> Step {
+    let why = Refusal::Token(Asked {
+        before: None,
+        here: Some(Spot::ExpressionBegin),
+        ended: false,
+    });
+    if may_end(token) || is_sign(token, Punctuator::Semicolon) {
+        return end(alloc, outer, Stmt::Return(place, None), token, why);
+    }
+    let outer = push(outer, 0, Frame::Purpose(Purpose::Return(place)))?;
+    begin(alloc, outer, token)
+}
+
+/// Behind `throw`.
+pub fn on_throw(alloc: Global, outer: Outer, token: &Token) -> Step {
+    if token.after_line_end {
+        return refused(Refusal::Plain);
+    }
+    let outer = push(outer, 0, Frame::Purpose(Purpose::Throw))?;
+    begin(alloc, outer, token)
+}
+
+/// Behind `break` or `continue`.
+pub fn on_jump(alloc: Global, outer: Outer, stmt: Stmt, token: &Token) -> Step {
+    let why = Refusal::Token(Asked {
+        before: None,
+        here: None,
+        ended: false,
+    });
+    end(alloc, outer, stmt, token, why)
+}
+
+/// A name has to be declared.
+pub fn on_declared_name(alloc: Global, outer: Outer, declared: Declared, token: &Token) -> Step {
+    match &token.kind {
+        TokenKind::Name(units) => {
+            let name = name_at(alloc, token.place, units)?;
+            to(outer, At::NameDeclared(declared, name))
+        }
+        _ => refuse_at(Spot::DeclaredName),
+    }
+}
+
+pub fn with_declaration(declared: Declared, name: Name, value: Option<Expr>) -> Result<Declared, StepEnd> {
+    let Declared {
+        kind,
+        in_for,
+        declarations,
+    } = declared;
+    let declarations = with(declarations, Declaration { name, value })?;
+    Ok(Declared {
+        kind,
+        in_for,
+        declarations,
+    })
+}
+
+fn is_of(token: &Token) -> bool {
+    match &token.kind {
+        TokenKind::Name(units) => js_lex::same_text(units.as_slice(), b"of"),
+        _ => false,
+    }
+}
+
+/// A `let` without a value is declared.
+fn on_bare_name(alloc: Global, outer: Outer, declared: Declared, name: Name, token: &Token) -> Step {
+    let declared = with_declaration(declared, name, None)?;
+    if is_sign(token, Punctuator::Comma) {
+        return to(outer, At::DeclaredName(declared));
+    }
+    let Declared {
+        kind,
+        in_for,
+        declarations,
+    } = declared;
+    if in_for {
+        if is_sign(token, Punctuator::Semicolon) {
+            let start = ForBegin::Declarations(kind, declarations);
+            return to(outer, At::ForTest(start));
+        }
+        return refuse();
+    }
+    let why = Refusal::Token(Asked {
+        before: None,
+        here: None,
+        ended: false,
+    });
+    end(alloc, outer, Stmt::Declare(kind, declarations), token, why)
+}
+
+/// A name was declared, and its value may follow.
+pub fn on_name_declared(
+    alloc: Global,
+    outer: Outer,
+    declared: Declared,
+    name: Name,
+    token: &Token,
+) -> Step {
+    if is_sign(token, Punctuator::Equal) {
+        let more = if declared.in_for { 1 } else { 0 };
+        return wait(outer, more, Purpose::Initial(declared, name));
+    }
+    if declared.in_for && declared.declarations.is_empty() && is_of(token) {
+        return wait(outer, 1, Purpose::ForOf(declared.kind, name));
+    }
+    match declared.kind {
+        DeclareKind::Let => on_bare_name(alloc, outer, declared, name, token),
+        DeclareKind::Const => refuse(),
+    }
+}
+
+/// Behind `try`.
+pub fn on_try(alloc: Global, outer: Outer, token: &Token) -> Step {
+    if is_sign(token, Punctuator::OpenBrace) {
+        return open_block(alloc, outer, 1, Block::Try);
+    }
+    refuse()
+}
+
+/// Behind `try {}`.
+pub fn after_try(outer: Outer, tried: Seq<Stmt>, token: &Token) -> Step {
+    match &token.kind {
+        TokenKind::Reserved(word) => match word {
+            Reserved::Catch => to(outer, At::CatchOpen(tried)),
+            Reserved::Finally => to(outer, At::FinallyOpen(tried, None)),
+            _ => refuse(),
+        },
+        _ => refuse(),
+    }
+}
+
+/// Behind `catch`.
+pub fn on_catch(alloc: Global, outer: Outer, tried: Seq<Stmt>, token: &Token) -> Step {
+    match &token.kind {
+        TokenKind::Punctuator(sign) => match sign {
+            Punctuator::OpenParen => to(outer, At::CatchName(tried)),
+            Punctuator::OpenBrace => open_block(alloc, outer, 1, Block::Catch(tried, None)),
+            _ => refuse(),
+        },
+        _ => refuse(),
+    }
+}
+
+pub fn on_catch_name(alloc: Global, outer: Outer, tried: Seq<Stmt>, token: &Token) -> Step {
+    match &token.kind {
+        TokenKind::Name(units) => {
+            let name = name_at(alloc, token.place, units)?;
+            to(outer, At::CatchClose(tried, name))
+        }
+        _ => refuse_at(Spot::DeclaredName),
+    }
+}
+
+pub fn on_catch_close(outer: Outer, tried: Seq<Stmt>, name: Name, token: &Token) -> Step {
+    if is_sign(token, Punctuator::CloseParen) {
+        return to(outer, At::CatchBody(tried, name));
+    }
+    refuse()
+}
+
+pub fn on_catch_body(
+    alloc: Global,
+    outer: Outer,
+    tried: Seq<Stmt>,
+    name: Name,
+    token: &Token,
+) -> Step {
+    if is_sign(token, Punctuator::OpenBrace) {
+        return open_block(alloc, outer, 1, Block::Catch(tried, Some(name)));
+    }
+    refuse()
+}
+
+/// Behind `try {} catch {}`.
+pub fn after_catch(alloc: Global, outer: Outer, tried: Seq<Stmt>, catch: Catch, token: &Token) -> Step {
+    if is_reserved(token, Reserved::Finally) {
+        return to(outer, At::FinallyOpen(tried, Some(catch)));
+    }
+    let stmt = Stmt::Try {
+        body: tried,
+        catch: Some(catch),
+        finally: None,
+    };
+    resume(alloc, outer, stmt, token)
+}
+
+pub fn on_finally(
+    alloc: Global,
+    outer: Outer,
+    tried: Seq<Stmt>,
+    catch: Option<Catch>,
+    token: &Token,
+) -> Step {
+    if is_sign(token, Punctuator::OpenBrace) {
+        return open_block(alloc, outer, 1, Block::Finally(tried, catch));
+    }
+    refuse()
+}
+
+/// Behind `export`.
+pub fn on_export_word(outer: Outer, token: &Token) -> Step {
+    if is_reserved(token, Reserved::Default) {
+        return to(outer, At::ExportObject);
+    }
+    refuse()
+}
+
+/// Behind `export default`.
+pub fn on_export_object(alloc: Global, outer: Outer, token: &Token) -> Step {
+    if is_sign(token, Punctuator::OpenBrace) {
+        let outer = push(outer, 0, Frame::Export)?;
+        return to(outer, At::Key(Seq::new(alloc)));
+    }
+    refuse()
+}
+
+/// The exported object is whole.
+pub fn export(outer: Outer, members: Seq<Property>) -> Step {
+    let Outer {
+        items,
+        exported: _,
+        frames,
+    } = outer;
+    let items = with(items, Item::Export(members))?;
+    let outer = Outer {
+        items,
+        exported: true,
+        frames,
+    };
+    to(outer, At::AfterExport)
+}
+
+/// Behind `export default {}`.
+pub fn after_export(alloc: Global, outer: Outer, token: &Token) -> Step {
+    if is_sign(token, Punctuator::Semicolon) {
+        return to(outer, At::Statement);
+    }
+    on_statement(alloc, outer, token)
+}
