@@ -5,3 +5,6 @@ pub mod Script
 pub mod Spots
 pub mod Letters
 pub mod Fault
+pub mod Tokens
+pub mod Outer
+pub mod Steps

@@ -1,12 +1,7 @@
+use crate::machine::{Operator, Tail, Callee, Purpose, Block, Frame, Cover, At, Outer, State, Refusal, StepEnd};
+use crate::outer::{refused, refuse, refuse_at, to, with, boxed, plus, constructs, push, pop, wait, wait_operand, wait_tail, open_block, position_of, is_whole, in_body, begins_statement, Position};
+use crate::tokens::{is_open_paren, is_close_paren, is_open_brace, is_close_bracket, is_comma, is_arrow, is_async, name_at, any_name};
 use crate::letters::reserved_letters;
-use crate::machine::{
-    At, Block, Callee, Cover, Frame, Head, Operator, Outer, Purpose, Refusal, StepEnd, Tail,
-};
-use crate::outer::{
-    Position, Step, begins_statement, boxed, constructs, in_body, is_reserved, is_sign, is_whole,
-    name_at, open_block, pop, position, push, refuse, refuse_at, refused, to, wait, wait_operand,
-    wait_tail, with,
-};
 use crate::values::{after_value, after_whole};
 use js_lex::{Punctuator, Reserved, TemplatePart, Token, TokenKind};
 use js_tree::{
@@ -17,15 +12,11 @@ use std::alloc::Global;
 use wd_base::{NoMemory, Seq, TryClone, Units};
 
 /// An operand without calls and member accesses was read.
-fn operand(outer: Outer, value: Expr) -> Step {
+fn operand(outer: Outer, value: Expr) -> Result<State, StepEnd> {
     to(outer, At::Operand(value, 0))
 }
 
-fn is_async(units: &Units) -> bool {
-    js_lex::same_text(units.as_slice(), b"async")
-}
-
-fn begin_name(alloc: Global, outer: Outer, place: usize, units: &Units) -> Step {
+fn begin_name(alloc: Global, outer: Outer, place: usize, units: &Units) -> Result<State, StepEnd> {
     let name = name_at(alloc, place, units)?;
     if is_async(units) {
         to(outer, At::Async(name))
@@ -34,7 +25,7 @@ fn begin_name(alloc: Global, outer: Outer, place: usize, units: &Units) -> Step 
     }
 }
 
-fn begin_template(alloc: Global, outer: Outer, part: TemplatePart, units: &Units) -> Step {
+fn begin_template(alloc: Global, outer: Outer, part: TemplatePart, units: &Units) -> Result<State, StepEnd> {
     let units = units.try_clone(alloc)?;
     match part {
         TemplatePart::Whole => operand(outer, Expr::Template(Seq::new(alloc), units)),
@@ -44,14 +35,17 @@ fn begin_template(alloc: Global, outer: Outer, part: TemplatePart, units: &Units
 }
 
 /// A prefix operator, which stands not behind `++` or `--`.
-fn prefix(outer: Outer, operator: Operator) -> Step {
-    match position(&outer) {
+fn prefix(outer: Outer, operator: Operator) -> Result<State, StepEnd> {
+    match position_of(&outer) {
         Position::Target => refuse_at(Spot::ExpressionBegin),
-        Position::Whole | Position::Operand => wait_operand(outer, 1, operator),
+        Position::Whole | Position::Operand => {
+            let inside = plus(constructs(&outer), 1);
+            wait_operand(outer, inside, operator)
+        },
     }
 }
 
-fn begin_by_word(outer: Outer, place: usize, word: Reserved) -> Step {
+fn begin_by_word(outer: Outer, place: usize, word: Reserved) -> Result<State, StepEnd> {
     match word {
         Reserved::True => operand(outer, Expr::True),
         Reserved::False => operand(outer, Expr::False),
@@ -66,7 +60,7 @@ fn begin_by_word(outer: Outer, place: usize, word: Reserved) -> Step {
 }
 
 /// `(` where an operand begins: a group, or the parameters of an arrow where one may stand.
-fn begin_paren(alloc: Global, outer: Outer) -> Step {
+fn begin_paren(alloc: Global, outer: Outer) -> Result<State, StepEnd> {
     if is_whole(&outer) {
         to(outer, At::CoverOpen(Cover::Plain, Seq::new(alloc)))
     } else {
@@ -74,7 +68,7 @@ fn begin_paren(alloc: Global, outer: Outer) -> Step {
     }
 }
 
-fn begin_by_sign(alloc: Global, outer: Outer, sign: Punctuator) -> Step {
+fn begin_by_sign(alloc: Global, outer: Outer, sign: Punctuator) -> Result<State, StepEnd> {
     match sign {
         Punctuator::OpenParen => begin_paren(alloc, outer),
         Punctuator::OpenBracket => to(outer, At::NextElement(Seq::new(alloc))),
@@ -88,7 +82,7 @@ fn begin_by_sign(alloc: Global, outer: Outer, sign: Punctuator) -> Step {
 }
 
 /// An operand begins.
-pub fn begin(alloc: Global, outer: Outer, token: &Token) -> Step {
+pub fn begin(alloc: Global, outer: Outer, token: &Token) -> Result<State, StepEnd> {
     match &token.kind {
         TokenKind::Name(units) => begin_name(alloc, outer, token.place, units),
         TokenKind::Number(number) => operand(outer, Expr::Number(*number)),
@@ -113,7 +107,7 @@ fn assign_op(sign: Punctuator) -> Option<AssignOp> {
 }
 
 /// `=`, `+=` or `-=` behind an operand.
-fn assign(alloc: Global, outer: Outer, op: AssignOp, value: Expr, token: &Token) -> Step {
+fn assign(alloc: Global, outer: Outer, op: AssignOp, value: Expr, token: &Token) -> Result<State, StepEnd> {
     if !is_whole(&outer) {
         return after_whole(alloc, outer, value, token);
     }
@@ -124,11 +118,11 @@ fn assign(alloc: Global, outer: Outer, op: AssignOp, value: Expr, token: &Token)
 }
 
 /// `++` or `--` behind an operand.
-fn update(alloc: Global, outer: Outer, op: UpdateOp, value: Expr, token: &Token) -> Step {
+fn update(alloc: Global, outer: Outer, op: UpdateOp, value: Expr, token: &Token) -> Result<State, StepEnd> {
     if token.after_line_end {
         return after_whole(alloc, outer, value, token);
     }
-    match position(&outer) {
+    match position_of(&outer) {
         Position::Target => after_whole(alloc, outer, value, token),
         Position::Whole | Position::Operand => match value.into_target() {
             Ok(target) => to(
@@ -141,7 +135,7 @@ fn update(alloc: Global, outer: Outer, op: UpdateOp, value: Expr, token: &Token)
 }
 
 /// `=>` behind an operand: a name is the parameter of an arrow, where one may stand.
-fn arrow_behind(alloc: Global, outer: Outer, value: Expr, token: &Token) -> Step {
+fn arrow_behind(alloc: Global, outer: Outer, value: Expr, token: &Token) -> Result<State, StepEnd> {
     if token.after_line_end || !is_whole(&outer) {
         return after_whole(alloc, outer, value, token);
     }
@@ -161,7 +155,7 @@ pub fn after_operand(
     value: Expr,
     accesses: usize,
     token: &Token,
-) -> Step {
+) -> Result<State, StepEnd> {
     let sign = match &token.kind {
         TokenKind::Punctuator(sign) => *sign,
         _ => return after_whole(alloc, outer, value, token),
@@ -174,7 +168,7 @@ pub fn after_operand(
         ),
         Punctuator::OpenBracket => wait(
             outer,
-            accesses.saturating_add(1),
+            plus(accesses, 1),
             Purpose::Index(value, accesses),
         ),
         Punctuator::PlusPlus => update(alloc, outer, UpdateOp::Increment, value, token),
@@ -188,7 +182,7 @@ pub fn after_operand(
 }
 
 /// Behind the name `async`, where an operand began with it.
-pub fn after_async(alloc: Global, outer: Outer, name: Name, token: &Token) -> Step {
+pub fn after_async(alloc: Global, outer: Outer, name: Name, token: &Token) -> Result<State, StepEnd> {
     if token.after_line_end {
         return after_operand(alloc, outer, Expr::Name(name), 0, token);
     }
@@ -213,7 +207,7 @@ pub fn after_async(alloc: Global, outer: Outer, name: Name, token: &Token) -> St
 }
 
 /// `async` `function` at the begin of a statement declares, and stands not as a body.
-fn async_function(outer: Outer) -> Step {
+fn async_function(outer: Outer) -> Result<State, StepEnd> {
     if !begins_statement(&outer) {
         return to(outer, At::FunctionName(false, true));
     }
@@ -225,7 +219,7 @@ fn async_function(outer: Outer) -> Step {
 }
 
 /// `async` `(`: a call, or the parameters of an arrow where one may stand.
-fn async_paren(alloc: Global, outer: Outer, name: Name) -> Step {
+fn async_paren(alloc: Global, outer: Outer, name: Name) -> Result<State, StepEnd> {
     if is_whole(&outer) {
         return to(outer, At::CoverOpen(Cover::Async(name), Seq::new(alloc)));
     }
@@ -268,12 +262,12 @@ pub fn on_cover_open(
     cover: Cover,
     names: Seq<Name>,
     token: &Token,
-) -> Step {
+) -> Result<State, StepEnd> {
     if let TokenKind::Name(units) = &token.kind {
         let name = name_at(alloc, token.place, units)?;
         return to(outer, At::CoverName(cover, names, name));
     }
-    if is_sign(token, Punctuator::CloseParen) {
+    if is_close_paren(token) {
         return to(outer, At::Covered(cover, names, false));
     }
     if may_be_values(&cover, &names) {
@@ -290,11 +284,11 @@ pub fn on_cover_name(
     names: Seq<Name>,
     last: Name,
     token: &Token,
-) -> Step {
-    if is_sign(token, Punctuator::Comma) {
+) -> Result<State, StepEnd> {
+    if is_comma(token) {
         return to(outer, At::CoverOpen(cover, with(names, last)?));
     }
-    if is_sign(token, Punctuator::CloseParen) {
+    if is_close_paren(token) {
         let is_alone = names.is_empty();
         return to(outer, At::Covered(cover, with(names, last)?, is_alone));
     }
@@ -322,8 +316,8 @@ pub fn on_covered(
     names: Seq<Name>,
     is_alone: bool,
     token: &Token,
-) -> Step {
-    if is_sign(token, Punctuator::Arrow) && !token.after_line_end {
+) -> Result<State, StepEnd> {
+    if is_arrow(token) && !token.after_line_end {
         let is_async = match cover {
             Cover::Plain => false,
             Cover::Async(_) => true,
@@ -352,8 +346,8 @@ pub fn on_covered(
 }
 
 /// Behind the parameters of an arrow.
-pub fn on_arrow(outer: Outer, is_async: bool, parameters: Seq<Name>, token: &Token) -> Step {
-    if is_sign(token, Punctuator::Arrow) && !token.after_line_end {
+pub fn on_arrow(outer: Outer, is_async: bool, parameters: Seq<Name>, token: &Token) -> Result<State, StepEnd> {
+    if is_arrow(token) && !token.after_line_end {
         return to(outer, At::ArrowBody(is_async, parameters));
     }
     refuse()
@@ -367,8 +361,8 @@ pub fn on_arrow_body(
     parameters: Seq<Name>,
     most: usize,
     token: &Token,
-) -> Step {
-    if is_sign(token, Punctuator::OpenBrace) {
+) -> Result<State, StepEnd> {
+    if is_open_brace(token) {
         return open_block(alloc, outer, 1, Block::Arrow(is_async, parameters));
     }
     let is_full = constructs(&outer) >= most;
@@ -381,7 +375,7 @@ pub fn on_arrow_body(
 }
 
 /// Behind `new`.
-pub fn on_new(alloc: Global, outer: Outer, token: &Token) -> Step {
+pub fn on_new(alloc: Global, outer: Outer, token: &Token) -> Result<State, StepEnd> {
     match &token.kind {
         TokenKind::Name(units) => {
             let name = name_at(alloc, token.place, units)?;
@@ -392,33 +386,12 @@ pub fn on_new(alloc: Global, outer: Outer, token: &Token) -> Step {
 }
 
 /// Behind `new name`.
-pub fn on_new_open(alloc: Global, outer: Outer, name: Name, token: &Token) -> Step {
-    if is_sign(token, Punctuator::OpenParen) {
+pub fn on_new_open(alloc: Global, outer: Outer, name: Name, token: &Token) -> Result<State, StepEnd> {
+    if is_open_paren(token) {
         let callee = Callee::New(name);
         return to(outer, At::NextArgument(callee, Seq::new(alloc)));
     }
     refuse()
-}
-
-/// A name, or a reserved word as one (ECMA-262, section 12.7, IdentifierName).
-pub fn any_name(alloc: Global, token: &Token) -> Result<Option<Name>, NoMemory> {
-    match &token.kind {
-        TokenKind::Name(units) => Ok(Some(name_at(alloc, token.place, units)?)),
-        TokenKind::Reserved(word) => {
-            let units = units_of_letters(alloc, reserved_letters(*word))?;
-            let place = token.place;
-            Ok(Some(Name { place, units }))
-        }
-        _ => Ok(None),
-    }
-}
-
-pub fn units_of_letters(alloc: Global, letters: &[u8]) -> Result<Units, NoMemory> {
-    let mut units = Seq::new(alloc);
-    for letter in letters {
-        units.push(u16::from(*letter))?;
-    }
-    Ok(units)
 }
 
 /// Behind `.`.
@@ -428,22 +401,22 @@ pub fn on_member(
     object: Expr,
     accesses: usize,
     token: &Token,
-) -> Step {
+) -> Result<State, StepEnd> {
     match any_name(alloc, token)? {
         Some(name) => {
             let member = Expr::Member(boxed(alloc, object)?, name);
-            to(outer, At::Operand(member, accesses.saturating_add(1)))
+            to(outer, At::Operand(member, plus(accesses, 1)))
         }
         None => refuse(),
     }
 }
 
 /// The call, or the `new`, whose arguments are whole.
-pub fn call(alloc: Global, outer: Outer, callee: Callee, arguments: Seq<Expr>) -> Step {
+pub fn call(alloc: Global, outer: Outer, callee: Callee, arguments: Seq<Expr>) -> Result<State, StepEnd> {
     match callee {
         Callee::Value(value, accesses) => {
             let call = Expr::Call(boxed(alloc, value)?, arguments);
-            to(outer, At::Operand(call, accesses.saturating_add(1)))
+            to(outer, At::Operand(call, plus(accesses, 1)))
         }
         Callee::New(name) => operand(outer, Expr::New(name, arguments)),
     }
@@ -463,18 +436,18 @@ pub fn on_argument(
     callee: Callee,
     arguments: Seq<Expr>,
     token: &Token,
-) -> Step {
-    if is_sign(token, Punctuator::CloseParen) {
+) -> Result<State, StepEnd> {
+    if is_close_paren(token) {
         return call(alloc, outer, callee, arguments);
     }
-    let more = callee_accesses(&callee).saturating_add(1);
+    let more = plus(callee_accesses(&callee), 1);
     let purpose = Purpose::Argument(callee, arguments);
     begin(alloc, push(outer, more, Frame::Purpose(purpose))?, token)
 }
 
 /// Behind `[` or a comma, where an item or `]` stands.
-pub fn on_element(alloc: Global, outer: Outer, items: Seq<Expr>, token: &Token) -> Step {
-    if is_sign(token, Punctuator::CloseBracket) {
+pub fn on_element(alloc: Global, outer: Outer, items: Seq<Expr>, token: &Token) -> Result<State, StepEnd> {
+    if is_close_bracket(token) {
         return operand(outer, Expr::Array(items));
     }
     let purpose = Purpose::Element(items);

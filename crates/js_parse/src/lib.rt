@@ -12,6 +12,7 @@ mod statements;
 mod steps;
 #[cfg(test)]
 mod tests;
+mod tokens;
 mod values;
 
 pub use reader::{ScriptEnd, parse};

@@ -1,9 +1,6 @@
-use crate::expressions::any_name;
-use crate::machine::{At, Block, Frame, Head, Outer, Purpose};
-use crate::outer::{
-    Step, is_sign, name_at, open_block, pop, push, refuse, refuse_at, refuse_by, refused, to, wait,
-    with,
-};
+use crate::machine::{Purpose, Head, Block, Frame, At, Outer, State, StepEnd};
+use crate::outer::{because, refused, refuse, refuse_at, to, with, constructs, pop, wait, open_block};
+use crate::tokens::{is_open_paren, is_open_brace, is_close_brace, is_open_bracket, is_comma, is_async, name_at, any_name};
 use crate::statements::export;
 use js_lex::{Punctuator, Token, TokenKind};
 use js_tree::{Expr, Key, Name, Property};
@@ -23,7 +20,7 @@ fn is_exported(outer: &Outer) -> bool {
 }
 
 /// The object is whole.
-pub fn close_object(outer: Outer, members: Seq<Property>) -> Step {
+pub fn close_object(outer: Outer, members: Seq<Property>) -> Result<State, StepEnd> {
     if is_exported(&outer) {
         let (outer, _) = pop(outer);
         return export(outer, members);
@@ -32,11 +29,11 @@ pub fn close_object(outer: Outer, members: Seq<Property>) -> Step {
 }
 
 /// Behind `{` or a comma, where a key or `}` stands.
-pub fn on_key(alloc: Global, outer: Outer, members: Seq<Property>, token: &Token) -> Step {
+pub fn on_key(alloc: Global, outer: Outer, members: Seq<Property>, token: &Token) -> Result<State, StepEnd> {
     match &token.kind {
         TokenKind::Name(units) => {
             let name = name_at(alloc, token.place, units)?;
-            if js_lex::same_text(units.as_slice(), b"async") {
+            if is_async(units) {
                 to(outer, At::AsyncKey(members, name))
             } else {
                 to(outer, At::NameKey(members, name))
@@ -72,7 +69,7 @@ pub fn on_other_key(
     members: Seq<Property>,
     key: Key,
     token: &Token,
-) -> Step {
+) -> Result<State, StepEnd> {
     match &token.kind {
         TokenKind::Punctuator(sign) => match sign {
             Punctuator::Colon => wait(outer, 1, Purpose::Pair(members, key)),
@@ -80,9 +77,9 @@ pub fn on_other_key(
                 let head = Head::Method(false, members, key);
                 to(outer, At::Parameters(head, Seq::new(alloc)))
             }
-            _ => refused(refuse_by(Some(Spot::Key), None)),
+            _ => refused(because(Some(Spot::Key), None)),
         },
-        _ => refused(refuse_by(Some(Spot::Key), None)),
+        _ => refused(because(Some(Spot::Key), None)),
     }
 }
 
@@ -93,11 +90,11 @@ pub fn on_name_key(
     members: Seq<Property>,
     name: Name,
     token: &Token,
-) -> Step {
-    if is_sign(token, Punctuator::Comma) {
+) -> Result<State, StepEnd> {
+    if is_comma(token) {
         return to(outer, At::Key(with(members, Property::Short(name))?));
     }
-    if is_sign(token, Punctuator::CloseBrace) {
+    if is_close_brace(token) {
         return close_object(outer, with(members, Property::Short(name))?);
     }
     on_other_key(alloc, outer, members, Key::Name(name), token)
@@ -110,13 +107,13 @@ pub fn on_async_key(
     members: Seq<Property>,
     name: Name,
     token: &Token,
-) -> Step {
+) -> Result<State, StepEnd> {
     if !token.after_line_end {
         if let Some(key) = key(alloc, token)? {
             return to(outer, At::AsyncMethod(members, key));
         }
     }
-    if is_sign(token, Punctuator::OpenBracket) {
+    if is_open_bracket(token) {
         return refuse_at(Spot::Key);
     }
     on_name_key(alloc, outer, members, name, token)
@@ -129,8 +126,8 @@ pub fn on_async_method(
     members: Seq<Property>,
     key: Key,
     token: &Token,
-) -> Step {
-    if is_sign(token, Punctuator::OpenParen) {
+) -> Result<State, StepEnd> {
+    if is_open_paren(token) {
         let head = Head::Method(true, members, key);
         return to(outer, At::Parameters(head, Seq::new(alloc)));
     }
@@ -138,11 +135,11 @@ pub fn on_async_method(
 }
 
 /// Behind a method.
-pub fn on_property_end(outer: Outer, members: Seq<Property>, token: &Token) -> Step {
-    if is_sign(token, Punctuator::Comma) {
+pub fn on_property_end(outer: Outer, members: Seq<Property>, token: &Token) -> Result<State, StepEnd> {
+    if is_comma(token) {
         return to(outer, At::Key(members));
     }
-    if is_sign(token, Punctuator::CloseBrace) {
+    if is_close_brace(token) {
         return close_object(outer, members);
     }
     refuse()
@@ -155,7 +152,7 @@ pub fn on_function_name(
     is_declaration: bool,
     is_async: bool,
     token: &Token,
-) -> Step {
+) -> Result<State, StepEnd> {
     match &token.kind {
         TokenKind::Name(units) => {
             let name = name_at(alloc, token.place, units)?;
@@ -181,8 +178,8 @@ pub fn on_function_name(
 }
 
 /// Before the parameters of a function.
-pub fn on_parameters_open(alloc: Global, outer: Outer, head: Head, token: &Token) -> Step {
-    if is_sign(token, Punctuator::OpenParen) {
+pub fn on_parameters_open(alloc: Global, outer: Outer, head: Head, token: &Token) -> Result<State, StepEnd> {
+    if is_open_paren(token) {
         return to(outer, At::Parameters(head, Seq::new(alloc)));
     }
     refuse()
@@ -195,7 +192,7 @@ pub fn on_parameters(
     head: Head,
     names: Seq<Name>,
     token: &Token,
-) -> Step {
+) -> Result<State, StepEnd> {
     match &token.kind {
         TokenKind::Name(units) => {
             let name = name_at(alloc, token.place, units)?;
@@ -216,7 +213,7 @@ pub fn on_parameter_read(
     names: Seq<Name>,
     name: Name,
     token: &Token,
-) -> Step {
+) -> Result<State, StepEnd> {
     let names = with(names, name)?;
     match &token.kind {
         TokenKind::Punctuator(sign) => match sign {
@@ -243,8 +240,8 @@ pub fn on_body_open(
     head: Head,
     names: Seq<Name>,
     token: &Token,
-) -> Step {
-    if is_sign(token, Punctuator::OpenBrace) {
+) -> Result<State, StepEnd> {
+    if is_open_brace(token) {
         let more = body_constructs(&head);
         return open_block(alloc, outer, more, Block::Function(head, names));
     }

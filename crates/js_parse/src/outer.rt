@@ -1,16 +1,16 @@
+ghost use Rattle.std.specs.Prelude.{◌≡◌, ◌∷◌, ◌++◌, [], Err, IfOk};
+ghost use Rattle.js_parse.specs.Outer as spec;
+ghost use Rattle.js_parse.specs.Steps.{Steps};
+
 use crate::machine::{
     Asked, At, Block, Body, Frame, Open, Operator, Outer, Purpose, Refusal, State, StepEnd, Tail,
 };
 use crate::stack::Stack;
-use js_lex::{Punctuator, Reserved, Token, TokenKind};
-use js_tree::{Expr, Item, Name, Stmt};
+use js_tree::{Item, Stmt};
 use js_words::Spot;
 use sqlite_items::Boxed;
 use std::alloc::Global;
-use wd_base::{NoMemory, Seq, TryClone, Units};
-
-/// What a step gives.
-pub type Step = Result<State, StepEnd>;
+use wd_base::{NoMemory, Seq};
 
 /// Where an operand stands.
 #[derive(Clone, Copy, Debug, PartialEq, Eq)]
@@ -23,7 +23,9 @@ pub enum Position {
     Target,
 }
 
-pub fn refuse_by(before: Option<Spot>, here: Option<Spot>) -> Refusal {
+pub fn because(before: Option<Spot>, here: Option<Spot>) -> Refusal
+    ensures { result ≡ spec.because before here }
+{
     Refusal::Token(Asked {
         before,
         here,
@@ -31,47 +33,69 @@ pub fn refuse_by(before: Option<Spot>, here: Option<Spot>) -> Refusal {
     })
 }
 
-pub fn refused(why: Refusal) -> Step {
+pub fn refused(why: Refusal) -> Result<State, StepEnd>
+    ensures { Steps (Err why) result }
+{
     Err(StepEnd::Refused(why))
 }
 
 /// Refused where no spot of the words stands.
-pub fn refuse() -> Step {
-    refused(refuse_by(None, None))
+pub fn refuse() -> Result<State, StepEnd>
+    ensures { Steps spec.refuse result }
+{
+    refused(because(None, None))
 }
 
-pub fn refuse_at(spot: Spot) -> Step {
-    refused(refuse_by(None, Some(spot)))
+pub fn refuse_at(spot: Spot) -> Result<State, StepEnd>
+    ensures { Steps (spec.refuse_at spot) result }
+{
+    refused(because(None, Some(spot)))
 }
 
-pub fn to(outer: Outer, at: At) -> Step {
+pub fn to(outer: Outer, at: At) -> Result<State, StepEnd>
+    ensures { Steps (spec.to outer at) result }
+{
     Ok(State { outer, at })
 }
 
-pub fn with<T: Drop>(list: Seq<T>, item: T) -> Result<Seq<T>, NoMemory> {
+pub fn with<T: Drop>(list: Seq<T>, item: T) -> Result<Seq<T>, NoMemory>
+    ensures { IfOk result (λ longer. longer ≡ list ++ item ∷ []) }
+{
     let mut list = list;
     list.push(item)?;
     Ok(list)
 }
 
-pub fn boxed<T: Drop>(alloc: Global, value: T) -> Result<Boxed<T>, NoMemory> {
+pub fn boxed<T: Drop>(alloc: Global, value: T) -> Result<Boxed<T>, NoMemory>
+    ensures { IfOk result (λ boxed. boxed ≡ value) }
+{
     match Boxed::new(alloc, value) {
         Ok(boxed) => Ok(boxed),
         Err(_) => Err(NoMemory),
     }
 }
 
+/// A sum of counts of constructs. It stands still far above what may be open.
+pub fn plus(a: usize, b: usize) -> usize
+    ensures { result ≡ spec.plus a b }
+{
+    if a < 1000 && b < 1000 { a + b } else { 1000 }
+}
+
 /// How many constructs are open within the innermost frame.
-pub fn constructs(outer: &Outer) -> usize {
+pub fn constructs(outer: &Outer) -> usize
+    ensures { result ≡ spec.constructs outer.now }
+{
     match outer.frames.top() {
         Some(open) => open.constructs,
         None => 0,
     }
 }
 
-/// One more frame, within which so many constructs more are open.
-pub fn push(outer: Outer, more: usize, frame: Frame) -> Result<Outer, NoMemory> {
-    let constructs = constructs(&outer).saturating_add(more);
+/// One more frame, within which so many constructs are open.
+pub fn push_at(outer: Outer, constructs: usize, frame: Frame) -> Result<Outer, NoMemory>
+    ensures { IfOk result (λ found. found ≡ spec.push_at outer constructs frame) }
+{
     let Outer {
         items,
         exported,
@@ -84,8 +108,19 @@ pub fn push(outer: Outer, more: usize, frame: Frame) -> Result<Outer, NoMemory> 
     })
 }
 
-/// The innermost frame, and what stands round it.
-pub fn pop(outer: Outer) -> (Outer, Option<Frame>) {
+/// .. so many more than around it.
+pub fn push(outer: Outer, more: usize, frame: Frame) -> Result<Outer, NoMemory>
+    ensures { IfOk result (λ found. found ≡ spec.push outer more frame) }
+{
+    let inside = plus(constructs(&outer), more);
+    push_at(outer, inside, frame)
+}
+
+/// What stands round the innermost frame, and that frame.
+pub fn pop(outer: Outer) -> (Outer, Option<Frame>)
+    ensures rest { result.0 ≡ spec.without outer }
+    ensures frame { result.1 ≡ spec.innermost outer }
+{
     let Outer {
         items,
         exported,
@@ -104,31 +139,44 @@ pub fn pop(outer: Outer) -> (Outer, Option<Frame>) {
 }
 
 /// A value has to come for this.
-pub fn wait(outer: Outer, more: usize, purpose: Purpose) -> Step {
+pub fn wait(outer: Outer, more: usize, purpose: Purpose) -> Result<State, StepEnd>
+    ensures { Steps (spec.wait outer more purpose) result }
+{
     to(push(outer, more, Frame::Purpose(purpose))?, At::Begin)
 }
 
 /// An operand has to come for this operator.
-pub fn wait_operand(outer: Outer, more: usize, operator: Operator) -> Step {
-    to(push(outer, more, Frame::Operator(operator))?, At::Begin)
+pub fn wait_operand(outer: Outer, inside: usize, operator: Operator) -> Result<State, StepEnd>
+    ensures { Steps (spec.wait_operand outer inside operator) result }
+{
+    to(push_at(outer, inside, Frame::Operator(operator))?, At::Begin)
 }
 
-pub fn wait_tail(outer: Outer, tail: Tail) -> Step {
+/// A value has to come, and this ends with it.
+pub fn wait_tail(outer: Outer, tail: Tail) -> Result<State, StepEnd>
+    ensures { Steps (spec.wait_tail outer tail) result }
+{
     to(push(outer, 1, Frame::Tail(tail))?, At::Begin)
 }
 
 /// A statement has to come as this body.
-pub fn wait_body(outer: Outer, body: Body) -> Step {
+pub fn wait_body(outer: Outer, body: Body) -> Result<State, StepEnd>
+    ensures { Steps (spec.wait_body outer body) result }
+{
     to(push(outer, 1, Frame::Body(body))?, At::Statement)
 }
 
 /// Statements have to come, within so many constructs more.
-pub fn open_block(alloc: Global, outer: Outer, more: usize, block: Block) -> Step {
+pub fn open_block(alloc: Global, outer: Outer, more: usize, block: Block) -> Result<State, StepEnd>
+    ensures { Steps (spec.open_block outer more block) result }
+{
     let frame = Frame::Block(block, Seq::new(alloc));
     to(push(outer, more, frame)?, At::Statement)
 }
 
-pub fn position(outer: &Outer) -> Position {
+pub fn position_of(outer: &Outer) -> Position
+    ensures { result ≡ spec.position outer.now }
+{
     match outer.frames.top() {
         Some(open) => match &open.frame {
             Frame::Operator(operator) => match operator {
@@ -141,15 +189,20 @@ pub fn position(outer: &Outer) -> Position {
     }
 }
 
-pub fn is_whole(outer: &Outer) -> bool {
-    match position(outer) {
+/// An assignment or an arrow may stand there.
+pub fn is_whole(outer: &Outer) -> bool
+    ensures { result ≡ spec.is_whole outer.now }
+{
+    match position_of(outer) {
         Position::Whole => true,
         Position::Operand | Position::Target => false,
     }
 }
 
 /// A statement waits for another as its body.
-pub fn in_body(outer: &Outer) -> bool {
+pub fn in_body(outer: &Outer) -> bool
+    ensures { result ≡ spec.in_body outer.now }
+{
     match outer.frames.top() {
         Some(open) => match &open.frame {
             Frame::Body(_) => true,
@@ -160,7 +213,9 @@ pub fn in_body(outer: &Outer) -> bool {
 }
 
 /// An expression as a statement begins.
-pub fn begins_statement(outer: &Outer) -> bool {
+pub fn begins_statement(outer: &Outer) -> bool
+    ensures { result ≡ spec.begins_statement outer.now }
+{
     match outer.frames.top() {
         Some(open) => match &open.frame {
             Frame::Purpose(purpose) => match purpose {
@@ -173,48 +228,24 @@ pub fn begins_statement(outer: &Outer) -> bool {
     }
 }
 
-/// The token is this punctuator.
-pub fn is_sign(token: &Token, sign: Punctuator) -> bool {
-    match &token.kind {
-        TokenKind::Punctuator(found) => *found == sign,
-        _ => false,
-    }
-}
-
-pub fn is_reserved(token: &Token, word: Reserved) -> bool {
-    match &token.kind {
-        TokenKind::Reserved(found) => *found == word,
-        _ => false,
-    }
-}
-
-pub fn name_at(alloc: Global, place: usize, units: &Units) -> Result<Name, NoMemory> {
-    Ok(Name {
-        place,
-        units: units.try_clone(alloc)?,
-    })
-}
-
 /// With one statement more among those of the innermost block.
-fn add(outer: Outer, constructs: usize, block: Block, stmts: Seq<Stmt>, stmt: Stmt) -> Step {
+fn add(
+    outer: Outer,
+    constructs: usize,
+    block: Block,
+    stmts: Seq<Stmt>,
+    stmt: Stmt,
+) -> Result<State, StepEnd>
+    ensures { Steps (spec.add outer constructs block stmts stmt) result }
+{
     let stmts = with(stmts, stmt)?;
-    let Outer {
-        items,
-        exported,
-        frames,
-    } = outer;
-    let frame = Frame::Block(block, stmts);
-    let frames = frames.with(Open { constructs, frame })?;
-    let outer = Outer {
-        items,
-        exported,
-        frames,
-    };
-    to(outer, At::Statement)
+    to(push_at(outer, constructs, Frame::Block(block, stmts))?, At::Statement)
 }
 
 /// With one statement more at the top level.
-fn add_item(outer: Outer, stmt: Stmt) -> Step {
+fn add_item(outer: Outer, stmt: Stmt) -> Result<State, StepEnd>
+    ensures { Steps (spec.add_item outer stmt) result }
+{
     let Outer {
         items,
         exported,
@@ -230,31 +261,33 @@ fn add_item(outer: Outer, stmt: Stmt) -> Step {
 }
 
 /// The statement that ends with this one as its body.
-fn with_body(alloc: Global, body: Body, stmt: Stmt) -> Result<Stmt, NoMemory> {
+fn with_body(alloc: Global, body: Body, stmt: Stmt) -> Result<Stmt, NoMemory>
+    ensures { IfOk result (λ whole. whole ≡ spec.with_body body stmt) }
+{
+    let stmt = boxed(alloc, stmt)?;
     match body {
-        Body::Then(test) => Ok(Stmt::If(test, boxed(alloc, stmt)?, None)),
-        Body::Else(test, yes) => {
-            let yes = boxed(alloc, yes)?;
-            Ok(Stmt::If(test, yes, Some(boxed(alloc, stmt)?)))
-        }
+        Body::Then(test) => Ok(Stmt::If(test, stmt, None)),
+        Body::Else(test, yes) => Ok(Stmt::If(test, boxed(alloc, yes)?, Some(stmt))),
         Body::For(begin, test, update) => Ok(Stmt::For {
             begin,
             test,
             update,
-            body: boxed(alloc, stmt)?,
+            body: stmt,
         }),
         Body::ForOf(kind, name, value) => Ok(Stmt::ForOf {
             kind,
             name,
             value,
-            body: boxed(alloc, stmt)?,
+            body: stmt,
         }),
-        Body::While(test) => Ok(Stmt::While(test, boxed(alloc, stmt)?)),
+        Body::While(test) => Ok(Stmt::While(test, stmt)),
     }
 }
 
 /// The statement is whole, its last token was taken, and the next one is `else` or may be.
-pub fn complete(alloc: Global, outer: Outer, stmt: Stmt) -> Step {
+pub fn complete(alloc: Global, outer: Outer, stmt: Stmt) -> Result<State, StepEnd>
+    ensures { Steps (spec.complete outer stmt) result }
+{
     let Outer {
         items,
         exported,
@@ -283,7 +316,9 @@ pub fn complete(alloc: Global, outer: Outer, stmt: Stmt) -> Step {
 }
 
 /// The statement is whole, its last token was taken, and the next one is not `else`.
-pub fn settle(alloc: Global, outer: Outer, stmt: Stmt) -> Step {
+pub fn settle(alloc: Global, outer: Outer, stmt: Stmt) -> Result<State, StepEnd>
+    ensures { Steps (spec.settle outer stmt) result }
+{
     let Outer {
         items,
         exported,

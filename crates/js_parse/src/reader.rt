@@ -1,8 +1,8 @@
-use crate::expressions::units_of_letters;
 use crate::letters::letters;
 use crate::machine::{Asked, At, Outer, Refusal, State, StepEnd};
 use crate::stack::Stack;
 use crate::steps::step;
+use crate::tokens::units_of_letters;
 use js_lex::{Punctuator, ScriptFault, ScriptKind, Token, TokenKind, Tokens, lex};
 use js_tree::Tree;
 use js_words::{Spot, Word, word_of};

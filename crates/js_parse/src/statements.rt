@@ -1,11 +1,7 @@
+use crate::machine::{Purpose, Declared, Body, Head, Block, Frame, Opening, At, Outer, State, Asked, Refusal, StepEnd};
+use crate::outer::{refused, refuse, refuse_at, to, with, boxed, push, pop, wait, wait_body, open_block, in_body, complete, settle};
+use crate::tokens::{is_open_paren, is_close_paren, is_open_brace, is_semicolon, is_comma, is_equal, is_else, is_finally, is_default, may_end, is_async, is_of, name_at};
 use crate::expressions::begin;
-use crate::machine::{
-    Asked, At, Block, Body, Declared, Frame, Head, Opening, Outer, Purpose, Refusal, State, StepEnd,
-};
-use crate::outer::{
-    Step, boxed, complete, in_body, is_reserved, is_sign, name_at, open_block, pop, push, refuse,
-    refuse_at, refused, settle, to, wait, wait_body, with,
-};
 use js_lex::{Punctuator, Reserved, Token, TokenKind};
 use js_tree::{
     ArrowBody, Catch, DeclareKind, Declaration, Expr, ForBegin, Function, Item, Name, Property, Stmt,
@@ -14,7 +10,7 @@ use js_words::Spot;
 use std::alloc::Global;
 use wd_base::Seq;
 
-fn not_in_body(outer: Outer, at: At) -> Step {
+fn not_in_body(outer: Outer, at: At) -> Result<State, StepEnd> {
     if in_body(&outer) {
         refuse_at(Spot::StatementBegin)
     } else {
@@ -22,7 +18,7 @@ fn not_in_body(outer: Outer, at: At) -> Step {
     }
 }
 
-fn declare(alloc: Global, outer: Outer, kind: DeclareKind, in_for: bool) -> Step {
+fn declare(alloc: Global, outer: Outer, kind: DeclareKind, in_for: bool) -> Result<State, StepEnd> {
     let declared = Declared {
         kind,
         in_for,
@@ -32,7 +28,7 @@ fn declare(alloc: Global, outer: Outer, kind: DeclareKind, in_for: bool) -> Step
 }
 
 /// `export` stands at the top level, and once at most.
-fn on_export(outer: Outer) -> Step {
+fn on_export(outer: Outer) -> Result<State, StepEnd> {
     if outer.frames.is_empty() && !outer.exported {
         to(outer, At::ExportDefault)
     } else {
@@ -40,12 +36,12 @@ fn on_export(outer: Outer) -> Step {
     }
 }
 
-fn expression_statement(alloc: Global, outer: Outer, token: &Token) -> Step {
+fn expression_statement(alloc: Global, outer: Outer, token: &Token) -> Result<State, StepEnd> {
     let outer = push(outer, 0, Frame::Purpose(Purpose::Statement))?;
     begin(alloc, outer, token)
 }
 
-fn begin_by_word(alloc: Global, outer: Outer, word: Reserved, token: &Token) -> Step {
+fn begin_by_word(alloc: Global, outer: Outer, word: Reserved, token: &Token) -> Result<State, StepEnd> {
     match word {
         Reserved::If => to(outer, At::Opening(Opening::If)),
         Reserved::While => to(outer, At::Opening(Opening::While)),
@@ -74,13 +70,13 @@ fn begin_by_word(alloc: Global, outer: Outer, word: Reserved, token: &Token) -> 
 }
 
 /// `{` as the begin of a statement: the braces of a body are the body.
-fn begin_block(alloc: Global, outer: Outer) -> Step {
+fn begin_block(alloc: Global, outer: Outer) -> Result<State, StepEnd> {
     let more = if in_body(&outer) { 0 } else { 1 };
     open_block(alloc, outer, more, Block::Plain)
 }
 
 /// The end of the script, where a statement may begin.
-fn end_script(outer: Outer) -> Step {
+fn end_script(outer: Outer) -> Result<State, StepEnd> {
     if outer.frames.is_empty() {
         to(outer, At::Statement)
     } else {
@@ -89,7 +85,7 @@ fn end_script(outer: Outer) -> Step {
 }
 
 /// A statement begins.
-pub fn on_statement(alloc: Global, outer: Outer, token: &Token) -> Step {
+pub fn on_statement(alloc: Global, outer: Outer, token: &Token) -> Result<State, StepEnd> {
     match &token.kind {
         TokenKind::Punctuator(sign) => match sign {
             Punctuator::OpenBrace => begin_block(alloc, outer),
@@ -110,7 +106,7 @@ fn close_function(
     head: Head,
     parameters: Seq<Name>,
     body: Seq<Stmt>,
-) -> Step {
+) -> Result<State, StepEnd> {
     match head {
         Head::Declaration(is_async, name) => {
             let function = Function {
@@ -141,7 +137,7 @@ fn close_function(
 }
 
 /// The statements between braces are whole.
-fn close(alloc: Global, outer: Outer, block: Block, body: Seq<Stmt>) -> Step {
+fn close(alloc: Global, outer: Outer, block: Block, body: Seq<Stmt>) -> Result<State, StepEnd> {
     match block {
         Block::Plain => complete(alloc, outer, Stmt::Block(body)),
         Block::Function(head, parameters) => close_function(alloc, outer, head, parameters, body),
@@ -167,7 +163,7 @@ fn close(alloc: Global, outer: Outer, block: Block, body: Seq<Stmt>) -> Step {
     }
 }
 
-fn close_block(alloc: Global, outer: Outer) -> Step {
+fn close_block(alloc: Global, outer: Outer) -> Result<State, StepEnd> {
     let (outer, frame) = pop(outer);
     match frame {
         Some(Frame::Block(block, body)) => close(alloc, outer, block, body),
@@ -175,16 +171,8 @@ fn close_block(alloc: Global, outer: Outer) -> Step {
     }
 }
 
-/// An automatic end may stand before the token (ECMA-262, section 12.10).
-fn may_end(token: &Token) -> bool {
-    match &token.kind {
-        TokenKind::End => true,
-        _ => token.after_line_end || is_sign(token, Punctuator::CloseBrace),
-    }
-}
-
 /// A token that is refused on its line is refused behind its line end too.
-fn behind_end(step: Step, why: Refusal) -> Step {
+fn behind_end(step: Result<State, StepEnd>, why: Refusal) -> Result<State, StepEnd> {
     match step {
         Err(StepEnd::Refused(Refusal::Token(_))) => refused(with_end(why)),
         step => step,
@@ -203,8 +191,8 @@ fn with_end(why: Refusal) -> Refusal {
 }
 
 /// The token stands behind a statement that is whole, and that an `else` may follow.
-pub fn resume(alloc: Global, outer: Outer, stmt: Stmt, token: &Token) -> Step {
-    if is_reserved(token, Reserved::Else) {
+pub fn resume(alloc: Global, outer: Outer, stmt: Stmt, token: &Token) -> Result<State, StepEnd> {
+    if is_else(token) {
         let State { outer, at } = complete(alloc, outer, stmt)?;
         return match at {
             At::AfterThen(test, yes) => wait_body(outer, Body::Else(test, yes)),
@@ -216,8 +204,8 @@ pub fn resume(alloc: Global, outer: Outer, stmt: Stmt, token: &Token) -> Step {
 }
 
 /// The statement is whole but for its end. A token that is no end is refused for this reason.
-pub fn end(alloc: Global, outer: Outer, stmt: Stmt, token: &Token, why: Refusal) -> Step {
-    if is_sign(token, Punctuator::Semicolon) {
+pub fn end(alloc: Global, outer: Outer, stmt: Stmt, token: &Token, why: Refusal) -> Result<State, StepEnd> {
+    if is_semicolon(token) {
         return complete(alloc, outer, stmt);
     }
     if may_end(token) {
@@ -227,16 +215,16 @@ pub fn end(alloc: Global, outer: Outer, stmt: Stmt, token: &Token, why: Refusal)
 }
 
 /// Behind the first branch of an `if`.
-pub fn after_then(alloc: Global, outer: Outer, test: Expr, yes: Stmt, token: &Token) -> Step {
-    if is_reserved(token, Reserved::Else) {
+pub fn after_then(alloc: Global, outer: Outer, test: Expr, yes: Stmt, token: &Token) -> Result<State, StepEnd> {
+    if is_else(token) {
         return wait_body(outer, Body::Else(test, yes));
     }
     resume(alloc, outer, Stmt::If(test, boxed(alloc, yes)?, None), token)
 }
 
 /// Behind `if`, `while` or `for`.
-pub fn on_opening(outer: Outer, opening: Opening, token: &Token) -> Step {
-    if !is_sign(token, Punctuator::OpenParen) {
+pub fn on_opening(outer: Outer, opening: Opening, token: &Token) -> Result<State, StepEnd> {
+    if !is_open_paren(token) {
         return refuse();
     }
     match opening {
@@ -246,13 +234,13 @@ pub fn on_opening(outer: Outer, opening: Opening, token: &Token) -> Step {
     }
 }
 
-fn for_start(alloc: Global, outer: Outer, token: &Token) -> Step {
+fn for_start(alloc: Global, outer: Outer, token: &Token) -> Result<State, StepEnd> {
     let outer = push(outer, 1, Frame::Purpose(Purpose::ForStart))?;
     begin(alloc, outer, token)
 }
 
 /// Behind `for (`.
-pub fn on_for_head(alloc: Global, outer: Outer, token: &Token) -> Step {
+pub fn on_for_head(alloc: Global, outer: Outer, token: &Token) -> Result<State, StepEnd> {
     match &token.kind {
         TokenKind::Reserved(word) => match word {
             Reserved::Let => declare(alloc, outer, DeclareKind::Let, true),
@@ -268,8 +256,8 @@ pub fn on_for_head(alloc: Global, outer: Outer, token: &Token) -> Step {
 }
 
 /// Behind `for (begin;`.
-pub fn on_for_test(alloc: Global, outer: Outer, start: ForBegin, token: &Token) -> Step {
-    if is_sign(token, Punctuator::Semicolon) {
+pub fn on_for_test(alloc: Global, outer: Outer, start: ForBegin, token: &Token) -> Result<State, StepEnd> {
+    if is_semicolon(token) {
         return to(outer, At::ForUpdate(start, None));
     }
     let outer = push(outer, 1, Frame::Purpose(Purpose::ForTest(start)))?;
@@ -283,8 +271,8 @@ pub fn on_for_update(
     start: ForBegin,
     test: Option<Expr>,
     token: &Token,
-) -> Step {
-    if is_sign(token, Punctuator::CloseParen) {
+) -> Result<State, StepEnd> {
+    if is_close_paren(token) {
         return wait_body(outer, Body::For(start, test, None));
     }
     let outer = push(outer, 1, Frame::Purpose(Purpose::ForUpdate(start, test)))?;
@@ -292,13 +280,13 @@ pub fn on_for_update(
 }
 
 /// Behind `return`.
-pub fn on_return(alloc: Global, outer: Outer, place: usize, token: &Token) -> Step {
+pub fn on_return(alloc: Global, outer: Outer, place: usize, token: &Token) -> Result<State, StepEnd> {
     let why = Refusal::Token(Asked {
         before: None,
         here: Some(Spot::ExpressionBegin),
         ended: false,
     });
-    if may_end(token) || is_sign(token, Punctuator::Semicolon) {
+    if may_end(token) || is_semicolon(token) {
         return end(alloc, outer, Stmt::Return(place, None), token, why);
     }
     let outer = push(outer, 0, Frame::Purpose(Purpose::Return(place)))?;
@@ -306,7 +294,7 @@ pub fn on_return(alloc: Global, outer: Outer, place: usize, token: &Token) -> St
 }
 
 /// Behind `throw`.
-pub fn on_throw(alloc: Global, outer: Outer, token: &Token) -> Step {
+pub fn on_throw(alloc: Global, outer: Outer, token: &Token) -> Result<State, StepEnd> {
     if token.after_line_end {
         return refused(Refusal::Plain);
     }
@@ -315,7 +303,7 @@ pub fn on_throw(alloc: Global, outer: Outer, token: &Token) -> Step {
 }
 
 /// Behind `break` or `continue`.
-pub fn on_jump(alloc: Global, outer: Outer, stmt: Stmt, token: &Token) -> Step {
+pub fn on_jump(alloc: Global, outer: Outer, stmt: Stmt, token: &Token) -> Result<State, StepEnd> {
     let why = Refusal::Token(Asked {
         before: None,
         here: None,
@@ -325,7 +313,7 @@ pub fn on_jump(alloc: Global, outer: Outer, stmt: Stmt, token: &Token) -> Step {
 }
 
 /// A name has to be declared.
-pub fn on_declared_name(alloc: Global, outer: Outer, declared: Declared, token: &Token) -> Step {
+pub fn on_declared_name(alloc: Global, outer: Outer, declared: Declared, token: &Token) -> Result<State, StepEnd> {
     match &token.kind {
         TokenKind::Name(units) => {
             let name = name_at(alloc, token.place, units)?;
@@ -349,17 +337,10 @@ pub fn with_declaration(declared: Declared, name: Name, value: Option<Expr>) -> 
     })
 }
 
-fn is_of(token: &Token) -> bool {
-    match &token.kind {
-        TokenKind::Name(units) => js_lex::same_text(units.as_slice(), b"of"),
-        _ => false,
-    }
-}
-
 /// A `let` without a value is declared.
-fn on_bare_name(alloc: Global, outer: Outer, declared: Declared, name: Name, token: &Token) -> Step {
+fn on_bare_name(alloc: Global, outer: Outer, declared: Declared, name: Name, token: &Token) -> Result<State, StepEnd> {
     let declared = with_declaration(declared, name, None)?;
-    if is_sign(token, Punctuator::Comma) {
+    if is_comma(token) {
         return to(outer, At::DeclaredName(declared));
     }
     let Declared {
@@ -368,7 +349,7 @@ fn on_bare_name(alloc: Global, outer: Outer, declared: Declared, name: Name, tok
         declarations,
     } = declared;
     if in_for {
-        if is_sign(token, Punctuator::Semicolon) {
+        if is_semicolon(token) {
             let start = ForBegin::Declarations(kind, declarations);
             return to(outer, At::ForTest(start));
         }
@@ -389,8 +370,8 @@ pub fn on_name_declared(
     declared: Declared,
     name: Name,
     token: &Token,
-) -> Step {
-    if is_sign(token, Punctuator::Equal) {
+) -> Result<State, StepEnd> {
+    if is_equal(token) {
         let more = if declared.in_for { 1 } else { 0 };
         return wait(outer, more, Purpose::Initial(declared, name));
     }
@@ -404,15 +385,15 @@ pub fn on_name_declared(
 }
 
 /// Behind `try`.
-pub fn on_try(alloc: Global, outer: Outer, token: &Token) -> Step {
-    if is_sign(token, Punctuator::OpenBrace) {
+pub fn on_try(alloc: Global, outer: Outer, token: &Token) -> Result<State, StepEnd> {
+    if is_open_brace(token) {
         return open_block(alloc, outer, 1, Block::Try);
     }
     refuse()
 }
 
 /// Behind `try {}`.
-pub fn after_try(outer: Outer, tried: Seq<Stmt>, token: &Token) -> Step {
+pub fn after_try(outer: Outer, tried: Seq<Stmt>, token: &Token) -> Result<State, StepEnd> {
     match &token.kind {
         TokenKind::Reserved(word) => match word {
             Reserved::Catch => to(outer, At::CatchOpen(tried)),
@@ -424,7 +405,7 @@ pub fn after_try(outer: Outer, tried: Seq<Stmt>, token: &Token) -> Step {
 }
 
 /// Behind `catch`.
-pub fn on_catch(alloc: Global, outer: Outer, tried: Seq<Stmt>, token: &Token) -> Step {
+pub fn on_catch(alloc: Global, outer: Outer, tried: Seq<Stmt>, token: &Token) -> Result<State, StepEnd> {
     match &token.kind {
         TokenKind::Punctuator(sign) => match sign {
             Punctuator::OpenParen => to(outer, At::CatchName(tried)),
@@ -435,7 +416,7 @@ pub fn on_catch(alloc: Global, outer: Outer, tried: Seq<Stmt>, token: &Token) ->
     }
 }
 
-pub fn on_catch_name(alloc: Global, outer: Outer, tried: Seq<Stmt>, token: &Token) -> Step {
+pub fn on_catch_name(alloc: Global, outer: Outer, tried: Seq<Stmt>, token: &Token) -> Result<State, StepEnd> {
     match &token.kind {
         TokenKind::Name(units) => {
             let name = name_at(alloc, token.place, units)?;
@@ -445,8 +426,8 @@ pub fn on_catch_name(alloc: Global, outer: Outer, tried: Seq<Stmt>, token: &Toke
     }
 }
 
-pub fn on_catch_close(outer: Outer, tried: Seq<Stmt>, name: Name, token: &Token) -> Step {
-    if is_sign(token, Punctuator::CloseParen) {
+pub fn on_catch_close(outer: Outer, tried: Seq<Stmt>, name: Name, token: &Token) -> Result<State, StepEnd> {
+    if is_close_paren(token) {
         return to(outer, At::CatchBody(tried, name));
     }
     refuse()
@@ -458,16 +439,16 @@ pub fn on_catch_body(
     tried: Seq<Stmt>,
     name: Name,
     token: &Token,
-) -> Step {
-    if is_sign(token, Punctuator::OpenBrace) {
+) -> Result<State, StepEnd> {
+    if is_open_brace(token) {
         return open_block(alloc, outer, 1, Block::Catch(tried, Some(name)));
     }
     refuse()
 }
 
 /// Behind `try {} catch {}`.
-pub fn after_catch(alloc: Global, outer: Outer, tried: Seq<Stmt>, catch: Catch, token: &Token) -> Step {
-    if is_reserved(token, Reserved::Finally) {
+pub fn after_catch(alloc: Global, outer: Outer, tried: Seq<Stmt>, catch: Catch, token: &Token) -> Result<State, StepEnd> {
+    if is_finally(token) {
         return to(outer, At::FinallyOpen(tried, Some(catch)));
     }
     let stmt = Stmt::Try {
@@ -484,24 +465,24 @@ pub fn on_finally(
     tried: Seq<Stmt>,
     catch: Option<Catch>,
     token: &Token,
-) -> Step {
-    if is_sign(token, Punctuator::OpenBrace) {
+) -> Result<State, StepEnd> {
+    if is_open_brace(token) {
         return open_block(alloc, outer, 1, Block::Finally(tried, catch));
     }
     refuse()
 }
 
 /// Behind `export`.
-pub fn on_export_word(outer: Outer, token: &Token) -> Step {
-    if is_reserved(token, Reserved::Default) {
+pub fn on_export_word(outer: Outer, token: &Token) -> Result<State, StepEnd> {
+    if is_default(token) {
         return to(outer, At::ExportObject);
     }
     refuse()
 }
 
 /// Behind `export default`.
-pub fn on_export_object(alloc: Global, outer: Outer, token: &Token) -> Step {
-    if is_sign(token, Punctuator::OpenBrace) {
+pub fn on_export_object(alloc: Global, outer: Outer, token: &Token) -> Result<State, StepEnd> {
+    if is_open_brace(token) {
         let outer = push(outer, 0, Frame::Export)?;
         return to(outer, At::Key(Seq::new(alloc)));
     }
@@ -509,7 +490,7 @@ pub fn on_export_object(alloc: Global, outer: Outer, token: &Token) -> Step {
 }
 
 /// The exported object is whole.
-pub fn export(outer: Outer, members: Seq<Property>) -> Step {
+pub fn export(outer: Outer, members: Seq<Property>) -> Result<State, StepEnd> {
     let Outer {
         items,
         exported: _,
@@ -525,8 +506,8 @@ pub fn export(outer: Outer, members: Seq<Property>) -> Step {
 }
 
 /// Behind `export default {}`.
-pub fn after_export(alloc: Global, outer: Outer, token: &Token) -> Step {
-    if is_sign(token, Punctuator::Semicolon) {
+pub fn after_export(alloc: Global, outer: Outer, token: &Token) -> Result<State, StepEnd> {
+    if is_semicolon(token) {
         return to(outer, At::Statement);
     }
     on_statement(alloc, outer, token)

@@ -1,13 +1,14 @@
+use crate::machine::{Callee, Head, At, Outer, State, Refusal, StepEnd};
+use crate::outer::{refused, plus, constructs};
+use crate::tokens::{is_async};
 use crate::expressions::{
     after_async, after_operand, begin, on_argument, on_arrow, on_arrow_body, on_cover_name,
     on_cover_open, on_covered, on_element, on_member, on_new, on_new_open,
 };
-use crate::machine::{At, Callee, Head, Outer, Refusal, State};
 use crate::objects::{
     on_async_key, on_async_method, on_body_open, on_function_name, on_key, on_name_key,
     on_other_key, on_parameter_read, on_parameters, on_parameters_open, on_property_end,
 };
-use crate::outer::{Step, constructs, refused};
 use crate::statements::{
     after_catch, after_export, after_then, after_try, on_catch, on_catch_body, on_catch_close,
     on_catch_name, on_declared_name, on_export_object, on_export_word, on_finally, on_for_head,
@@ -21,7 +22,7 @@ use std::alloc::Global;
 /// So many constructs may be open.
 pub const MOST_OPEN: usize = 128;
 
-fn step_in(alloc: Global, outer: Outer, at: At, token: &Token) -> Step {
+fn step_in(alloc: Global, outer: Outer, at: At, token: &Token) -> Result<State, StepEnd> {
     match at {
         At::Statement => on_statement(alloc, outer, token),
         At::Begin => begin(alloc, outer, token),
@@ -49,7 +50,7 @@ fn step_in(alloc: Global, outer: Outer, at: At, token: &Token) -> Step {
     }
 }
 
-fn step_in_object(alloc: Global, outer: Outer, at: At, token: &Token) -> Step {
+fn step_in_object(alloc: Global, outer: Outer, at: At, token: &Token) -> Result<State, StepEnd> {
     match at {
         At::Key(members) => on_key(alloc, outer, members, token),
         At::NameKey(members, name) => on_name_key(alloc, outer, members, name, token),
@@ -70,7 +71,7 @@ fn step_in_object(alloc: Global, outer: Outer, at: At, token: &Token) -> Step {
     }
 }
 
-fn step_in_statement(alloc: Global, outer: Outer, at: At, token: &Token) -> Step {
+fn step_in_statement(alloc: Global, outer: Outer, at: At, token: &Token) -> Result<State, StepEnd> {
     match at {
         At::DeclaredName(declared) => on_declared_name(alloc, outer, declared, token),
         At::NameDeclared(declared, name) => {
@@ -107,7 +108,7 @@ fn parameter_constructs(head: &Head) -> usize {
 
 fn callee_constructs(callee: &Callee) -> usize {
     match callee {
-        Callee::Value(_, accesses) => accesses.saturating_add(1),
+        Callee::Value(_, accesses) => plus(*accesses, 1),
         Callee::New(_) => 1,
     }
 }
@@ -116,7 +117,7 @@ fn callee_constructs(callee: &Callee) -> usize {
 fn more_constructs(at: &At) -> usize {
     match at {
         At::Operand(_, accesses) => *accesses,
-        At::MemberName(_, accesses) => accesses.saturating_add(1),
+        At::MemberName(_, accesses) => plus(*accesses, 1),
         At::NextArgument(callee, _) => callee_constructs(callee),
         At::Parameters(head, _) | At::ParameterRead(head, _, _) => parameter_constructs(head),
         At::CoverOpen(_, _) | At::CoverName(_, _, _) | At::NextElement(_) => 1,
@@ -130,11 +131,11 @@ fn more_constructs(at: &At) -> usize {
 
 /// No more constructs are open than may be.
 fn is_shallow(state: &State) -> bool {
-    constructs(&state.outer).saturating_add(more_constructs(&state.at)) <= MOST_OPEN
+    plus(constructs(&state.outer), more_constructs(&state.at)) <= MOST_OPEN
 }
 
 /// What the token does.
-pub fn step(alloc: Global, state: State, token: &Token) -> Step {
+pub fn step(alloc: Global, state: State, token: &Token) -> Result<State, StepEnd> {
     let State { outer, at } = state;
     let state = step_in(alloc, outer, at, token)?;
     if is_shallow(&state) {

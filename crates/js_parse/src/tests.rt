@@ -13,7 +13,7 @@ fn read(alloc: Global, script: &[u8]) -> Result<Tree, ScriptEnd> {
 #[test]
 fn scripts_of_the_grammar(rt: HostRuntime) -> Result<(), Fail> {
     // a script, and how many items it has
-    let rows: [(&[u8], usize); 60] = [
+    let rows: [(&[u8], usize); 61] = [
         (b"", 0),
         (b";;", 2),
         // automatic ends

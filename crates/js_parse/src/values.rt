@@ -1,12 +1,8 @@
+use crate::machine::{Operator, Tail, Callee, Purpose, Declared, Body, Frame, At, Outer, State, Asked, Refusal, StepEnd};
+use crate::outer::{because, refused, refuse, refuse_at, to, with, boxed, plus, constructs, pop, wait, wait_operand, wait_tail, wait_body};
+use crate::tokens::{is_close_bracket, is_close_paren, is_semicolon, is_comma, is_colon, is_async};
 use crate::expressions::call;
-use crate::machine::{
-    Asked, At, Body, Callee, Declared, Frame, Operator, Outer, Purpose, Refusal, StepEnd, Tail,
-};
 use crate::objects::close_object;
-use crate::outer::{
-    Step, boxed, constructs, is_sign, pop, push, refuse, refuse_at, refuse_by, refused, to, wait,
-    wait_body, wait_operand, wait_tail, with,
-};
 use crate::statements::{end, with_declaration};
 use js_lex::{Punctuator, TemplatePart, Token, TokenKind};
 use js_tree::{
@@ -57,7 +53,7 @@ enum Logic {
     Other,
 }
 
-fn logic(op: BinaryOp) -> Logic {
+fn logic_of(op: BinaryOp) -> Logic {
     match op {
         BinaryOp::Coalesce => Logic::Coalescing,
         BinaryOp::Or | BinaryOp::And => Logic::AndOr,
@@ -81,7 +77,7 @@ fn are_mixed(a: Logic, b: Logic) -> bool {
 
 fn outermost(value: &Expr) -> Logic {
     match value {
-        Expr::Binary(op, _, _) => logic(*op),
+        Expr::Binary(op, _, _) => logic_of(*op),
         _ => Logic::Other,
     }
 }
@@ -91,7 +87,7 @@ fn waiting(outer: &Outer) -> Logic {
     match outer.frames.top() {
         Some(open) => match &open.frame {
             Frame::Operator(operator) => match operator {
-                Operator::Binary(_, op) => logic(*op),
+                Operator::Binary(_, op) => logic_of(*op),
                 _ => Logic::Other,
             },
             _ => Logic::Other,
@@ -124,7 +120,7 @@ fn apply(alloc: Global, operator: Operator, value: Expr) -> Result<Expr, StepEnd
         Operator::Await(place) => Ok(Expr::Await(place, boxed(alloc, value)?)),
         Operator::Update(op) => match value.into_target() {
             Ok(target) => Ok(Expr::Update(UpdateSide::Before, op, target)),
-            Err(_) => Err(StepEnd::Refused(refuse_by(None, None))),
+            Err(_) => Err(StepEnd::Refused(because(None, None))),
         },
     }
 }
@@ -145,25 +141,24 @@ fn fold(
             let value = apply(alloc, operator, value)?;
             fold(alloc, outer, least, value)
         }
-        _ => Err(StepEnd::Refused(refuse_by(None, None))),
+        _ => Err(StepEnd::Refused(because(None, None))),
     }
 }
 
 /// A binary operator behind an operand.
-fn binary(alloc: Global, outer: Outer, op: BinaryOp, value: Expr, token: &Token) -> Step {
+fn binary(alloc: Global, outer: Outer, op: BinaryOp, value: Expr, token: &Token) -> Result<State, StepEnd> {
     let (outer, value) = fold(alloc, outer, 7, value)?;
     // prefix operators end before it, and the operators of its chain do not
     let open = constructs(&outer);
     let (outer, value) = fold(alloc, outer, strength(op), value)?;
-    if are_mixed(logic(op), outermost(&value)) || are_mixed(logic(op), waiting(&outer)) {
+    if are_mixed(logic_of(op), outermost(&value)) || are_mixed(logic_of(op), waiting(&outer)) {
         return after_whole(alloc, outer, value, token);
     }
-    let more = open.saturating_sub(constructs(&outer)).saturating_add(1);
-    wait_operand(outer, more, Operator::Binary(value, op))
+    wait_operand(outer, plus(open, 1), Operator::Binary(value, op))
 }
 
 /// A token behind a value that a binary operator or `?` may follow.
-pub fn after_value(alloc: Global, outer: Outer, value: Expr, token: &Token) -> Step {
+pub fn after_value(alloc: Global, outer: Outer, value: Expr, token: &Token) -> Result<State, StepEnd> {
     let sign = match &token.kind {
         TokenKind::Punctuator(sign) => *sign,
         _ => return after_whole(alloc, outer, value, token),
@@ -218,12 +213,12 @@ fn fold_tails(alloc: Global, outer: Outer, value: Expr) -> Result<(Outer, Expr),
             let value = end_tail(alloc, tail, value)?;
             fold_tails(alloc, outer, value)
         }
-        _ => Err(StepEnd::Refused(refuse_by(None, None))),
+        _ => Err(StepEnd::Refused(because(None, None))),
     }
 }
 
 /// A token behind a value that is whole.
-pub fn after_whole(alloc: Global, outer: Outer, value: Expr, token: &Token) -> Step {
+pub fn after_whole(alloc: Global, outer: Outer, value: Expr, token: &Token) -> Result<State, StepEnd> {
     let (outer, value) = fold(alloc, outer, 0, value)?;
     let (outer, value) = fold_tails(alloc, outer, value)?;
     let (outer, frame) = pop(outer);
@@ -239,7 +234,7 @@ fn on_argument_end(
     callee: Callee,
     arguments: Seq<Expr>,
     token: &Token,
-) -> Step {
+) -> Result<State, StepEnd> {
     match &token.kind {
         TokenKind::Punctuator(sign) => match sign {
             Punctuator::Comma => to(outer, At::NextArgument(callee, arguments)),
@@ -250,7 +245,7 @@ fn on_argument_end(
     }
 }
 
-fn on_element_end(outer: Outer, items: Seq<Expr>, token: &Token) -> Step {
+fn on_element_end(outer: Outer, items: Seq<Expr>, token: &Token) -> Result<State, StepEnd> {
     match &token.kind {
         TokenKind::Punctuator(sign) => match sign {
             Punctuator::Comma => to(outer, At::NextElement(items)),
@@ -261,7 +256,7 @@ fn on_element_end(outer: Outer, items: Seq<Expr>, token: &Token) -> Step {
     }
 }
 
-fn on_pair_end(outer: Outer, members: Seq<Property>, token: &Token) -> Step {
+fn on_pair_end(outer: Outer, members: Seq<Property>, token: &Token) -> Result<State, StepEnd> {
     match &token.kind {
         TokenKind::Punctuator(sign) => match sign {
             Punctuator::Comma => to(outer, At::Key(members)),
@@ -277,7 +272,7 @@ fn on_hole_end(
     outer: Outer,
     items: Seq<TemplateItem>,
     token: &Token,
-) -> Step {
+) -> Result<State, StepEnd> {
     match &token.kind {
         TokenKind::Template(part, units) => match part {
             TemplatePart::Middle => {
@@ -295,7 +290,7 @@ fn on_hole_end(
 }
 
 /// An expression as a statement is whole. A name that `:` follows is a label.
-fn on_statement_end(alloc: Global, outer: Outer, value: Expr, token: &Token) -> Step {
+fn on_statement_end(alloc: Global, outer: Outer, value: Expr, token: &Token) -> Result<State, StepEnd> {
     let before = match &value {
         Expr::Name(_) => Some(Spot::StatementBegin),
         _ => None,
@@ -309,8 +304,8 @@ fn on_statement_end(alloc: Global, outer: Outer, value: Expr, token: &Token) -> 
 }
 
 /// The value of a declaration is whole.
-fn on_initial_end(alloc: Global, outer: Outer, declared: Declared, token: &Token) -> Step {
-    if is_sign(token, Punctuator::Comma) {
+fn on_initial_end(alloc: Global, outer: Outer, declared: Declared, token: &Token) -> Result<State, StepEnd> {
+    if is_comma(token) {
         return to(outer, At::DeclaredName(declared));
     }
     let Declared {
@@ -319,10 +314,10 @@ fn on_initial_end(alloc: Global, outer: Outer, declared: Declared, token: &Token
         declarations,
     } = declared;
     if !in_for {
-        let why = refuse_by(None, Some(Spot::OperandEnd));
+        let why = because(None, Some(Spot::OperandEnd));
         return end(alloc, outer, Stmt::Declare(kind, declarations), token, why);
     }
-    if is_sign(token, Punctuator::Semicolon) {
+    if is_semicolon(token) {
         let start = ForBegin::Declarations(kind, declarations);
         return to(outer, At::ForTest(start));
     }
@@ -330,22 +325,23 @@ fn on_initial_end(alloc: Global, outer: Outer, declared: Declared, token: &Token
 }
 
 /// The value in the brackets of a statement is whole.
-fn on_head_end(outer: Outer, body: Body, token: &Token) -> Step {
-    if is_sign(token, Punctuator::CloseParen) {
+fn on_head_end(outer: Outer, body: Body, token: &Token) -> Result<State, StepEnd> {
+    if is_close_paren(token) {
         return wait_body(outer, body);
     }
     refuse_at(Spot::OperandEnd)
 }
 
-fn on_part_end(outer: Outer, at: At, sign: Punctuator, token: &Token) -> Step {
-    if is_sign(token, sign) {
+/// The value is whole where its last token stands behind it.
+fn on_part_end(outer: Outer, at: At, is_last: bool) -> Result<State, StepEnd> {
+    if is_last {
         return to(outer, at);
     }
     refuse_at(Spot::OperandEnd)
 }
 
-fn on_then_end(outer: Outer, test: Expr, yes: Expr, token: &Token) -> Step {
-    if is_sign(token, Punctuator::Colon) {
+fn on_then_end(outer: Outer, test: Expr, yes: Expr, token: &Token) -> Result<State, StepEnd> {
+    if is_colon(token) {
         return wait_tail(outer, Tail::Else(test, yes));
     }
     refuse_at(Spot::OperandEnd)
@@ -358,20 +354,20 @@ fn on_value(
     purpose: Purpose,
     value: Expr,
     token: &Token,
-) -> Step {
+) -> Result<State, StepEnd> {
     match purpose {
         Purpose::Then(test) => on_then_end(outer, test, value, token),
         Purpose::Group => {
             let group = Expr::Group(boxed(alloc, value)?);
-            on_part_end(outer, At::Operand(group, 0), Punctuator::CloseParen, token)
+            on_part_end(outer, At::Operand(group, 0), is_close_paren(token))
         }
         Purpose::Argument(callee, arguments) => {
             on_argument_end(alloc, outer, callee, with(arguments, value)?, token)
         }
         Purpose::Index(object, accesses) => {
             let index = Expr::Index(boxed(alloc, object)?, boxed(alloc, value)?);
-            let at = At::Operand(index, accesses.saturating_add(1));
-            on_part_end(outer, at, Punctuator::CloseBracket, token)
+            let at = At::Operand(index, plus(accesses, 1));
+            on_part_end(outer, at, is_close_bracket(token))
         }
         Purpose::Element(items) => on_element_end(outer, with(items, value)?, token),
         Purpose::Pair(members, key) => {
@@ -389,11 +385,11 @@ fn on_value(
         }
         Purpose::ForStart => {
             let at = At::ForTest(ForBegin::Start(value));
-            on_part_end(outer, at, Punctuator::Semicolon, token)
+            on_part_end(outer, at, is_semicolon(token))
         }
         Purpose::ForTest(start) => {
             let at = At::ForUpdate(start, Some(value));
-            on_part_end(outer, at, Punctuator::Semicolon, token)
+            on_part_end(outer, at, is_semicolon(token))
         }
         Purpose::Statement => on_statement_end(alloc, outer, value, token),
         Purpose::Initial(declared, name) => {
@@ -401,11 +397,11 @@ fn on_value(
             on_initial_end(alloc, outer, declared, token)
         }
         Purpose::Return(place) => {
-            let why = refuse_by(None, Some(Spot::OperandEnd));
+            let why = because(None, Some(Spot::OperandEnd));
             end(alloc, outer, Stmt::Return(place, Some(value)), token, why)
         }
         Purpose::Throw => {
-            let why = refuse_by(None, Some(Spot::OperandEnd));
+            let why = because(None, Some(Spot::OperandEnd));
             end(alloc, outer, Stmt::Throw(value), token, why)
         }
     }
