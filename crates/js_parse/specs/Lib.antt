@@ -7,4 +7,10 @@ pub mod Letters
 pub mod Fault
 pub mod Tokens
 pub mod Outer
+pub mod Begin
+pub mod Objects
+pub mod Statements
+pub mod Values
+pub mod Expressions
+pub mod Machine
 pub mod Steps

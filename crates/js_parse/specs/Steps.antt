@@ -7,6 +7,7 @@ use Rattle.js_parse.specs.declared.machine.State.{State}
 use Rattle.js_parse.specs.declared.machine.StepEnd.{StepEnd}
 use Rattle.js_parse.specs.declared.machine.StepEnd.TheVariants.{Refused, NoMemory}
 use Rattle.js_parse.specs.Outer.{Step}
+use Rattle.js_parse.specs.Values.{Folded}
 
 -- the step of the definition, unless memory ran out
 abbrev pub Steps : Step → Result State StepEnd → Type 0
@@ -19,3 +20,9 @@ abbrev pub Gives : {A : Type 0} → Result A Refusal → Result A StepEnd → Ty
 Gives x (Ok a) = x ≡ Ok a
 Gives x (Err (Refused k)) = x ≡ Err k
 Gives x (Err NoMemory) = Unit {0}
+
+-- .. of the operators that get their operands
+abbrev pub Folds : Folded → Result (List Open × Expr) StepEnd → Type 0
+Folds found (Ok x) = found ≡ Ok (record { frames = x.0; value = x.1 })
+Folds found (Err (Refused k)) = found ≡ Err k
+Folds found (Err NoMemory) = Unit {0}

@@ -1,103 +1,21 @@
-use crate::machine::{Operator, Tail, Callee, Purpose, Block, Frame, Cover, At, Outer, State, Refusal, StepEnd};
-use crate::outer::{refused, refuse, refuse_at, to, with, boxed, plus, constructs, push, pop, wait, wait_operand, wait_tail, open_block, position_of, is_whole, in_body, begins_statement, Position};
+ghost use Rattle.std.specs.Prelude.{◌≡◌, IfOk};
+ghost use Rattle.js_parse.specs.Expressions as spec;
+ghost use Rattle.js_parse.specs.Steps.{Steps};
+
+use crate::machine::{Tail, Callee, Purpose, Block, Frame, Cover, At, Outer, State, Refusal, StepEnd};
+use crate::outer::{refused, refuse, refuse_at, to, with, boxed, plus, constructs, push, pop, wait, wait_tail, open_block, position_of, is_whole, in_body, begins_statement, Position};
 use crate::tokens::{is_open_paren, is_close_paren, is_open_brace, is_close_bracket, is_comma, is_arrow, is_async, name_at, any_name};
-use crate::letters::reserved_letters;
-use crate::values::{after_value, after_whole};
-use js_lex::{Punctuator, Reserved, TemplatePart, Token, TokenKind};
-use js_tree::{
-    AssignOp, BinaryOp, Expr, Name, Target, UnaryOp, UpdateOp, UpdateSide,
-};
-use js_words::Spot;
-use std::alloc::Global;
-use wd_base::{NoMemory, Seq, TryClone, Units};
+use crate::begins::{begin, operand};
+use crate::values::{call, after_value, after_whole};
+use js_lex::{Punctuator, Reserved, Token, TokenKind};
+use js_tree::{AssignOp, Expr, Name, UpdateOp, UpdateSide};
+use js_words::{Spot};
+use std::alloc::{Global};
+use wd_base::{NoMemory, Seq};
 
-/// An operand without calls and member accesses was read.
-fn operand(outer: Outer, value: Expr) -> Result<State, StepEnd> {
-    to(outer, At::Operand(value, 0))
-}
-
-fn begin_name(alloc: Global, outer: Outer, place: usize, units: &Units) -> Result<State, StepEnd> {
-    let name = name_at(alloc, place, units)?;
-    if is_async(units) {
-        to(outer, At::Async(name))
-    } else {
-        operand(outer, Expr::Name(name))
-    }
-}
-
-fn begin_template(alloc: Global, outer: Outer, part: TemplatePart, units: &Units) -> Result<State, StepEnd> {
-    let units = units.try_clone(alloc)?;
-    match part {
-        TemplatePart::Whole => operand(outer, Expr::Template(Seq::new(alloc), units)),
-        TemplatePart::Head => wait(outer, 1, Purpose::Hole(Seq::new(alloc), units)),
-        TemplatePart::Middle | TemplatePart::Tail => refuse_at(Spot::ExpressionBegin),
-    }
-}
-
-/// A prefix operator, which stands not behind `++` or `--`.
-fn prefix(outer: Outer, operator: Operator) -> Result<State, StepEnd> {
-    match position_of(&outer) {
-        Position::Target => refuse_at(Spot::ExpressionBegin),
-        Position::Whole | Position::Operand => {
-            let inside = plus(constructs(&outer), 1);
-            wait_operand(outer, inside, operator)
-        },
-    }
-}
-
-fn begin_by_word(outer: Outer, place: usize, word: Reserved) -> Result<State, StepEnd> {
-    match word {
-        Reserved::True => operand(outer, Expr::True),
-        Reserved::False => operand(outer, Expr::False),
-        Reserved::Null => operand(outer, Expr::Null),
-        Reserved::This => operand(outer, Expr::This),
-        Reserved::Function => to(outer, At::FunctionName(false, false)),
-        Reserved::New => to(outer, At::NewName),
-        Reserved::TypeOf => prefix(outer, Operator::Unary(UnaryOp::TypeOf)),
-        Reserved::Await => prefix(outer, Operator::Await(place)),
-        _ => refuse_at(Spot::ExpressionBegin),
-    }
-}
-
-/// `(` where an operand begins: a group, or the parameters of an arrow where one may stand.
-fn begin_paren(alloc: Global, outer: Outer) -> Result<State, StepEnd> {
-    if is_whole(&outer) {
-        to(outer, At::CoverOpen(Cover::Plain, Seq::new(alloc)))
-    } else {
-        wait(outer, 1, Purpose::Group)
-    }
-}
-
-fn begin_by_sign(alloc: Global, outer: Outer, sign: Punctuator) -> Result<State, StepEnd> {
-    match sign {
-        Punctuator::OpenParen => begin_paren(alloc, outer),
-        Punctuator::OpenBracket => to(outer, At::NextElement(Seq::new(alloc))),
-        Punctuator::OpenBrace => to(outer, At::Key(Seq::new(alloc))),
-        Punctuator::Not => prefix(outer, Operator::Unary(UnaryOp::Not)),
-        Punctuator::Minus => prefix(outer, Operator::Unary(UnaryOp::Negate)),
-        Punctuator::PlusPlus => prefix(outer, Operator::Update(UpdateOp::Increment)),
-        Punctuator::MinusMinus => prefix(outer, Operator::Update(UpdateOp::Decrement)),
-        _ => refuse_at(Spot::ExpressionBegin),
-    }
-}
-
-/// An operand begins.
-pub fn begin(alloc: Global, outer: Outer, token: &Token) -> Result<State, StepEnd> {
-    match &token.kind {
-        TokenKind::Name(units) => begin_name(alloc, outer, token.place, units),
-        TokenKind::Number(number) => operand(outer, Expr::Number(*number)),
-        TokenKind::Text(units) => {
-            let units = units.try_clone(alloc)?;
-            operand(outer, Expr::Text(units))
-        }
-        TokenKind::Template(part, units) => begin_template(alloc, outer, *part, units),
-        TokenKind::Reserved(word) => begin_by_word(outer, token.place, *word),
-        TokenKind::Punctuator(sign) => begin_by_sign(alloc, outer, *sign),
-        _ => refuse_at(Spot::ExpressionBegin),
-    }
-}
-
-fn assign_op(sign: Punctuator) -> Option<AssignOp> {
+fn assign_op(sign: Punctuator) -> Option<AssignOp>
+    ensures { result ≡ spec.assign_op sign }
+{
     match sign {
         Punctuator::Equal => Some(AssignOp::Set),
         Punctuator::PlusEqual => Some(AssignOp::Add),
@@ -107,7 +25,9 @@ fn assign_op(sign: Punctuator) -> Option<AssignOp> {
 }
 
 /// `=`, `+=` or `-=` behind an operand.
-fn assign(alloc: Global, outer: Outer, op: AssignOp, value: Expr, token: &Token) -> Result<State, StepEnd> {
+fn assign(alloc: Global, outer: Outer, op: AssignOp, value: Expr, token: &Token) -> Result<State, StepEnd>
+    ensures { Steps (spec.on_assign outer op value token.now) result }
+{
     if !is_whole(&outer) {
         return after_whole(alloc, outer, value, token);
     }
@@ -118,7 +38,9 @@ fn assign(alloc: Global, outer: Outer, op: AssignOp, value: Expr, token: &Token)
 }
 
 /// `++` or `--` behind an operand.
-fn update(alloc: Global, outer: Outer, op: UpdateOp, value: Expr, token: &Token) -> Result<State, StepEnd> {
+fn update(alloc: Global, outer: Outer, op: UpdateOp, value: Expr, token: &Token) -> Result<State, StepEnd>
+    ensures { Steps (spec.on_update outer op value token.now) result }
+{
     if token.after_line_end {
         return after_whole(alloc, outer, value, token);
     }
@@ -135,7 +57,9 @@ fn update(alloc: Global, outer: Outer, op: UpdateOp, value: Expr, token: &Token)
 }
 
 /// `=>` behind an operand: a name is the parameter of an arrow, where one may stand.
-fn arrow_behind(alloc: Global, outer: Outer, value: Expr, token: &Token) -> Result<State, StepEnd> {
+fn arrow_behind(alloc: Global, outer: Outer, value: Expr, token: &Token) -> Result<State, StepEnd>
+    ensures { Steps (spec.arrow_behind outer value token.now) result }
+{
     if token.after_line_end || !is_whole(&outer) {
         return after_whole(alloc, outer, value, token);
     }
@@ -148,29 +72,25 @@ fn arrow_behind(alloc: Global, outer: Outer, value: Expr, token: &Token) -> Resu
     }
 }
 
-/// A token behind an operand, whose chain has so many calls and member accesses.
-pub fn after_operand(
+fn operand_sign(
     alloc: Global,
     outer: Outer,
     value: Expr,
     accesses: usize,
     token: &Token,
-) -> Result<State, StepEnd> {
-    let sign = match &token.kind {
-        TokenKind::Punctuator(sign) => *sign,
-        _ => return after_whole(alloc, outer, value, token),
-    };
+    sign: Punctuator,
+) -> Result<State, StepEnd>
+    ensures { Steps (spec.operand_sign outer value accesses token.now sign) result }
+{
     match sign {
         Punctuator::Dot => to(outer, At::MemberName(value, accesses)),
-        Punctuator::OpenParen => to(
-            outer,
-            At::NextArgument(Callee::Value(value, accesses), Seq::new(alloc)),
-        ),
-        Punctuator::OpenBracket => wait(
-            outer,
-            plus(accesses, 1),
-            Purpose::Index(value, accesses),
-        ),
+        Punctuator::OpenParen => {
+            let callee = Callee::Value(value, accesses);
+            to(outer, At::NextArgument(callee, Seq::new(alloc)))
+        }
+        Punctuator::OpenBracket => {
+            wait(outer, plus(accesses, 1), Purpose::Index(value, accesses))
+        }
         Punctuator::PlusPlus => update(alloc, outer, UpdateOp::Increment, value, token),
         Punctuator::MinusMinus => update(alloc, outer, UpdateOp::Decrement, value, token),
         Punctuator::Arrow => arrow_behind(alloc, outer, value, token),
@@ -181,8 +101,26 @@ pub fn after_operand(
     }
 }
 
+/// A token behind an operand, whose chain has so many calls and member accesses.
+pub fn after_operand(
+    alloc: Global,
+    outer: Outer,
+    value: Expr,
+    accesses: usize,
+    token: &Token,
+) -> Result<State, StepEnd>
+    ensures { Steps (spec.after_operand outer value accesses token.now) result }
+{
+    match &token.kind {
+        TokenKind::Punctuator(sign) => operand_sign(alloc, outer, value, accesses, token, *sign),
+        _ => after_whole(alloc, outer, value, token),
+    }
+}
+
 /// Behind the name `async`, where an operand began with it.
-pub fn after_async(alloc: Global, outer: Outer, name: Name, token: &Token) -> Result<State, StepEnd> {
+pub fn after_async(alloc: Global, outer: Outer, name: Name, token: &Token) -> Result<State, StepEnd>
+    ensures { Steps (spec.after_async outer name token.now) result }
+{
     if token.after_line_end {
         return after_operand(alloc, outer, Expr::Name(name), 0, token);
     }
@@ -192,11 +130,12 @@ pub fn after_async(alloc: Global, outer: Outer, name: Name, token: &Token) -> Re
             _ => after_operand(alloc, outer, Expr::Name(name), 0, token),
         },
         TokenKind::Name(units) => {
-            if !is_whole(&outer) {
-                return after_operand(alloc, outer, Expr::Name(name), 0, token);
+            if is_whole(&outer) {
+                let parameter = name_at(alloc, token.place, units)?;
+                to(outer, At::Arrow(true, with(Seq::new(alloc), parameter)?))
+            } else {
+                after_operand(alloc, outer, Expr::Name(name), 0, token)
             }
-            let parameter = name_at(alloc, token.place, units)?;
-            to(outer, At::Arrow(true, with(Seq::new(alloc), parameter)?))
         }
         TokenKind::Punctuator(sign) => match sign {
             Punctuator::OpenParen => async_paren(alloc, outer, name),
@@ -207,7 +146,9 @@ pub fn after_async(alloc: Global, outer: Outer, name: Name, token: &Token) -> Re
 }
 
 /// `async` `function` at the begin of a statement declares, and stands not as a body.
-fn async_function(outer: Outer) -> Result<State, StepEnd> {
+fn async_function(outer: Outer) -> Result<State, StepEnd>
+    ensures { Steps (spec.async_function outer) result }
+{
     if !begins_statement(&outer) {
         return to(outer, At::FunctionName(false, true));
     }
@@ -219,7 +160,9 @@ fn async_function(outer: Outer) -> Result<State, StepEnd> {
 }
 
 /// `async` `(`: a call, or the parameters of an arrow where one may stand.
-fn async_paren(alloc: Global, outer: Outer, name: Name) -> Result<State, StepEnd> {
+fn async_paren(alloc: Global, outer: Outer, name: Name) -> Result<State, StepEnd>
+    ensures { Steps (spec.async_paren outer name) result }
+{
     if is_whole(&outer) {
         return to(outer, At::CoverOpen(Cover::Async(name), Seq::new(alloc)));
     }
@@ -227,7 +170,9 @@ fn async_paren(alloc: Global, outer: Outer, name: Name) -> Result<State, StepEnd
     to(outer, At::NextArgument(callee, Seq::new(alloc)))
 }
 
-fn as_values(alloc: Global, names: Seq<Name>) -> Result<Seq<Expr>, NoMemory> {
+fn as_values(alloc: Global, names: Seq<Name>) -> Result<Seq<Expr>, NoMemory>
+    ensures { IfOk result (λ values. values ≡ spec.as_values names) }
+{
     let mut values = Seq::new(alloc);
     for name in names.into_vec() {
         values.push(Expr::Name(name))?;
@@ -236,7 +181,9 @@ fn as_values(alloc: Global, names: Seq<Name>) -> Result<Seq<Expr>, NoMemory> {
 }
 
 /// The names were values: the brackets are a group, or those of a call.
-fn uncover(alloc: Global, outer: Outer, cover: Cover, names: Seq<Name>) -> Result<Outer, StepEnd> {
+fn uncover(alloc: Global, outer: Outer, cover: Cover, names: Seq<Name>) -> Result<Outer, StepEnd>
+    ensures { IfOk result (λ inside. inside ≡ spec.uncover outer cover names) }
+{
     let purpose = match cover {
         Cover::Plain => Purpose::Group,
         Cover::Async(name) => {
@@ -248,7 +195,9 @@ fn uncover(alloc: Global, outer: Outer, cover: Cover, names: Seq<Name>) -> Resul
 }
 
 /// A value other than a name may stand in the brackets.
-fn may_be_values(cover: &Cover, names: &Seq<Name>) -> bool {
+fn may_be_values(cover: &Cover, names: &Seq<Name>) -> bool
+    ensures { result ≡ spec.may_be_values cover.now names.now }
+{
     match cover {
         Cover::Plain => names.is_empty(),
         Cover::Async(_) => true,
@@ -262,7 +211,9 @@ pub fn on_cover_open(
     cover: Cover,
     names: Seq<Name>,
     token: &Token,
-) -> Result<State, StepEnd> {
+) -> Result<State, StepEnd>
+    ensures { Steps (spec.on_cover_open outer cover names token.now) result }
+{
     if let TokenKind::Name(units) = &token.kind {
         let name = name_at(alloc, token.place, units)?;
         return to(outer, At::CoverName(cover, names, name));
@@ -276,6 +227,17 @@ pub fn on_cover_open(
     refuse_at(Spot::Parameter)
 }
 
+/// Behind a name where an operand began with it.
+fn after_name(alloc: Global, outer: Outer, name: Name, token: &Token) -> Result<State, StepEnd>
+    ensures { Steps (spec.after_name outer name token.now) result }
+{
+    if is_async(&name.units) {
+        after_async(alloc, outer, name, token)
+    } else {
+        after_operand(alloc, outer, Expr::Name(name), 0, token)
+    }
+}
+
 /// Behind a name that may be a parameter.
 pub fn on_cover_name(
     alloc: Global,
@@ -284,7 +246,9 @@ pub fn on_cover_name(
     names: Seq<Name>,
     last: Name,
     token: &Token,
-) -> Result<State, StepEnd> {
+) -> Result<State, StepEnd>
+    ensures { Steps (spec.on_cover_name outer cover names last token.now) result }
+{
     if is_comma(token) {
         return to(outer, At::CoverOpen(cover, with(names, last)?));
     }
@@ -295,17 +259,31 @@ pub fn on_cover_name(
     if !may_be_values(&cover, &names) {
         return refuse_at(Spot::Parameter);
     }
-    let outer = uncover(alloc, outer, cover, names)?;
-    if is_async(&last.units) {
-        after_async(alloc, outer, last, token)
+    after_name(alloc, uncover(alloc, outer, cover, names)?, last, token)
+}
+
+/// The name, where it is the only one.
+fn only_name(names: Seq<Name>) -> Option<Name>
+    ensures { result ≡ spec.only_name names }
+{
+    if names.len() == 1 {
+        let mut names = names.into_vec();
+        names.pop()
     } else {
-        after_operand(alloc, outer, Expr::Name(last), 0, token)
+        None
     }
 }
 
-fn last_of(names: Seq<Name>) -> Option<Name> {
-    let mut names = names.into_vec();
-    names.pop()
+fn group_of(alloc: Global, outer: Outer, names: Seq<Name>, token: &Token) -> Result<State, StepEnd>
+    ensures { Steps (spec.group_of outer token.now (spec.only_name names)) result }
+{
+    match only_name(names) {
+        Some(name) => {
+            let group = Expr::Group(boxed(alloc, Expr::Name(name))?);
+            after_operand(alloc, outer, group, 0, token)
+        }
+        None => refuse(),
+    }
 }
 
 /// Behind brackets round names: parameters, or a group or a call.
@@ -316,7 +294,9 @@ pub fn on_covered(
     names: Seq<Name>,
     is_alone: bool,
     token: &Token,
-) -> Result<State, StepEnd> {
+) -> Result<State, StepEnd>
+    ensures { Steps (spec.on_covered outer cover names is_alone token.now) result }
+{
     if is_arrow(token) && !token.after_line_end {
         let is_async = match cover {
             Cover::Plain => false,
@@ -331,22 +311,19 @@ pub fn on_covered(
             after_operand(alloc, outer, call, 1, token)
         }
         Cover::Plain => {
-            if !is_alone {
-                return refuse();
-            }
-            match last_of(names) {
-                Some(name) => {
-                    let group = Expr::Group(boxed(alloc, Expr::Name(name))?);
-                    after_operand(alloc, outer, group, 0, token)
-                }
-                None => refuse(),
+            if is_alone {
+                group_of(alloc, outer, names, token)
+            } else {
+                refuse()
             }
         }
     }
 }
 
 /// Behind the parameters of an arrow.
-pub fn on_arrow(outer: Outer, is_async: bool, parameters: Seq<Name>, token: &Token) -> Result<State, StepEnd> {
+pub fn on_arrow(outer: Outer, is_async: bool, parameters: Seq<Name>, token: &Token) -> Result<State, StepEnd>
+    ensures { Steps (spec.on_arrow outer is_async parameters token.now) result }
+{
     if is_arrow(token) && !token.after_line_end {
         return to(outer, At::ArrowBody(is_async, parameters));
     }
@@ -361,7 +338,9 @@ pub fn on_arrow_body(
     parameters: Seq<Name>,
     most: usize,
     token: &Token,
-) -> Result<State, StepEnd> {
+) -> Result<State, StepEnd>
+    ensures { Steps (spec.on_arrow_body most outer is_async parameters token.now) result }
+{
     if is_open_brace(token) {
         return open_block(alloc, outer, 1, Block::Arrow(is_async, parameters));
     }
@@ -375,7 +354,9 @@ pub fn on_arrow_body(
 }
 
 /// Behind `new`.
-pub fn on_new(alloc: Global, outer: Outer, token: &Token) -> Result<State, StepEnd> {
+pub fn on_new(alloc: Global, outer: Outer, token: &Token) -> Result<State, StepEnd>
+    ensures { Steps (spec.on_new outer token.now.place token.now.kind) result }
+{
     match &token.kind {
         TokenKind::Name(units) => {
             let name = name_at(alloc, token.place, units)?;
@@ -386,7 +367,9 @@ pub fn on_new(alloc: Global, outer: Outer, token: &Token) -> Result<State, StepE
 }
 
 /// Behind `new name`.
-pub fn on_new_open(alloc: Global, outer: Outer, name: Name, token: &Token) -> Result<State, StepEnd> {
+pub fn on_new_open(alloc: Global, outer: Outer, name: Name, token: &Token) -> Result<State, StepEnd>
+    ensures { Steps (spec.on_new_open outer name token.now.kind) result }
+{
     if is_open_paren(token) {
         let callee = Callee::New(name);
         return to(outer, At::NextArgument(callee, Seq::new(alloc)));
@@ -401,7 +384,9 @@ pub fn on_member(
     object: Expr,
     accesses: usize,
     token: &Token,
-) -> Result<State, StepEnd> {
+) -> Result<State, StepEnd>
+    ensures { Steps (spec.on_member outer object accesses token.now) result }
+{
     match any_name(alloc, token)? {
         Some(name) => {
             let member = Expr::Member(boxed(alloc, object)?, name);
@@ -411,18 +396,9 @@ pub fn on_member(
     }
 }
 
-/// The call, or the `new`, whose arguments are whole.
-pub fn call(alloc: Global, outer: Outer, callee: Callee, arguments: Seq<Expr>) -> Result<State, StepEnd> {
-    match callee {
-        Callee::Value(value, accesses) => {
-            let call = Expr::Call(boxed(alloc, value)?, arguments);
-            to(outer, At::Operand(call, plus(accesses, 1)))
-        }
-        Callee::New(name) => operand(outer, Expr::New(name, arguments)),
-    }
-}
-
-fn callee_accesses(callee: &Callee) -> usize {
+fn callee_accesses(callee: &Callee) -> usize
+    ensures { result ≡ spec.callee_accesses callee.now }
+{
     match callee {
         Callee::Value(_, accesses) => *accesses,
         Callee::New(_) => 0,
@@ -436,7 +412,9 @@ pub fn on_argument(
     callee: Callee,
     arguments: Seq<Expr>,
     token: &Token,
-) -> Result<State, StepEnd> {
+) -> Result<State, StepEnd>
+    ensures { Steps (spec.on_argument outer callee arguments token.now) result }
+{
     if is_close_paren(token) {
         return call(alloc, outer, callee, arguments);
     }
@@ -446,7 +424,9 @@ pub fn on_argument(
 }
 
 /// Behind `[` or a comma, where an item or `]` stands.
-pub fn on_element(alloc: Global, outer: Outer, items: Seq<Expr>, token: &Token) -> Result<State, StepEnd> {
+pub fn on_element(alloc: Global, outer: Outer, items: Seq<Expr>, token: &Token) -> Result<State, StepEnd>
+    ensures { Steps (spec.on_element outer items token.now) result }
+{
     if is_close_bracket(token) {
         return operand(outer, Expr::Array(items));
     }

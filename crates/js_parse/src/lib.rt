@@ -1,6 +1,7 @@
 //! The one tree of a script, or its first fault. `docs/SCRIPTS.md` describes the grammar.
 #![tactic(auto)]
 
+mod begins;
 mod expressions;
 mod letters;
 mod machine;

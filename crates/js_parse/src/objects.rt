@@ -1,15 +1,21 @@
+ghost use Rattle.std.specs.Prelude.{◌≡◌, IfOk};
+ghost use Rattle.js_parse.specs.Outer as machine;
+ghost use Rattle.js_parse.specs.Objects as spec;
+ghost use Rattle.js_parse.specs.Steps.{Steps};
+
 use crate::machine::{Purpose, Head, Block, Frame, At, Outer, State, StepEnd};
-use crate::outer::{because, refused, refuse, refuse_at, to, with, constructs, pop, wait, open_block};
+use crate::outer::{because, refused, refuse, refuse_at, to, with, pop, wait, open_block};
 use crate::tokens::{is_open_paren, is_open_brace, is_close_brace, is_open_bracket, is_comma, is_async, name_at, any_name};
-use crate::statements::export;
 use js_lex::{Punctuator, Token, TokenKind};
-use js_tree::{Expr, Key, Name, Property};
-use js_words::Spot;
-use std::alloc::Global;
+use js_tree::{Expr, Item, Key, Name, Property};
+use js_words::{Spot};
+use std::alloc::{Global};
 use wd_base::{NoMemory, Seq, TryClone};
 
 /// The object is what `export default` gives.
-fn is_exported(outer: &Outer) -> bool {
+fn is_exported(outer: &Outer) -> bool
+    ensures { result ≡ spec.is_export (machine.innermost outer.now) }
+{
     match outer.frames.top() {
         Some(open) => match &open.frame {
             Frame::Export => true,
@@ -19,8 +25,28 @@ fn is_exported(outer: &Outer) -> bool {
     }
 }
 
+/// The exported object is whole.
+fn export(outer: Outer, members: Seq<Property>) -> Result<State, StepEnd>
+    ensures { Steps (spec.export outer members) result }
+{
+    let Outer {
+        items,
+        exported: _,
+        frames,
+    } = outer;
+    let items = with(items, Item::Export(members))?;
+    let outer = Outer {
+        items,
+        exported: true,
+        frames,
+    };
+    to(outer, At::AfterExport)
+}
+
 /// The object is whole.
-pub fn close_object(outer: Outer, members: Seq<Property>) -> Result<State, StepEnd> {
+pub fn close_object(outer: Outer, members: Seq<Property>) -> Result<State, StepEnd>
+    ensures { Steps (spec.close_object outer members) result }
+{
     if is_exported(&outer) {
         let (outer, _) = pop(outer);
         return export(outer, members);
@@ -29,7 +55,9 @@ pub fn close_object(outer: Outer, members: Seq<Property>) -> Result<State, StepE
 }
 
 /// Behind `{` or a comma, where a key or `}` stands.
-pub fn on_key(alloc: Global, outer: Outer, members: Seq<Property>, token: &Token) -> Result<State, StepEnd> {
+pub fn on_key(alloc: Global, outer: Outer, members: Seq<Property>, token: &Token) -> Result<State, StepEnd>
+    ensures { Steps (spec.on_key outer members token.now.place token.now.kind) result }
+{
     match &token.kind {
         TokenKind::Name(units) => {
             let name = name_at(alloc, token.place, units)?;
@@ -51,7 +79,9 @@ pub fn on_key(alloc: Global, outer: Outer, members: Seq<Property>, token: &Token
 }
 
 /// The key that the token is (ECMA-262, section 13.2.5, LiteralPropertyName).
-fn key(alloc: Global, token: &Token) -> Result<Option<Key>, NoMemory> {
+fn key(alloc: Global, token: &Token) -> Result<Option<Key>, NoMemory>
+    ensures { IfOk result (λ found. found ≡ spec.key token.now.place token.now.kind) }
+{
     match &token.kind {
         TokenKind::Text(units) => Ok(Some(Key::Text(units.try_clone(alloc)?))),
         TokenKind::Number(number) => Ok(Some(Key::Number(*number))),
@@ -69,7 +99,9 @@ pub fn on_other_key(
     members: Seq<Property>,
     key: Key,
     token: &Token,
-) -> Result<State, StepEnd> {
+) -> Result<State, StepEnd>
+    ensures { Steps (spec.on_other_key outer members key token.now.kind) result }
+{
     match &token.kind {
         TokenKind::Punctuator(sign) => match sign {
             Punctuator::Colon => wait(outer, 1, Purpose::Pair(members, key)),
@@ -90,7 +122,9 @@ pub fn on_name_key(
     members: Seq<Property>,
     name: Name,
     token: &Token,
-) -> Result<State, StepEnd> {
+) -> Result<State, StepEnd>
+    ensures { Steps (spec.on_name_key outer members name token.now.kind) result }
+{
     if is_comma(token) {
         return to(outer, At::Key(with(members, Property::Short(name))?));
     }
@@ -100,6 +134,22 @@ pub fn on_name_key(
     on_other_key(alloc, outer, members, Key::Name(name), token)
 }
 
+/// Behind the name `async` as a key.
+fn on_async_name(
+    alloc: Global,
+    outer: Outer,
+    members: Seq<Property>,
+    name: Name,
+    token: &Token,
+) -> Result<State, StepEnd>
+    ensures { Steps (spec.on_async_name outer members name token.now.kind) result }
+{
+    if is_open_bracket(token) {
+        return refuse_at(Spot::Key);
+    }
+    on_name_key(alloc, outer, members, name, token)
+}
+
 /// Behind the name `async` as a key, or before one.
 pub fn on_async_key(
     alloc: Global,
@@ -107,16 +157,16 @@ pub fn on_async_key(
     members: Seq<Property>,
     name: Name,
     token: &Token,
-) -> Result<State, StepEnd> {
-    if !token.after_line_end {
-        if let Some(key) = key(alloc, token)? {
-            return to(outer, At::AsyncMethod(members, key));
-        }
+) -> Result<State, StepEnd>
+    ensures { Steps (spec.on_async_key outer members name token.now) result }
+{
+    if token.after_line_end {
+        return on_async_name(alloc, outer, members, name, token);
     }
-    if is_open_bracket(token) {
-        return refuse_at(Spot::Key);
+    match key(alloc, token)? {
+        Some(key) => to(outer, At::AsyncMethod(members, key)),
+        None => on_async_name(alloc, outer, members, name, token),
     }
-    on_name_key(alloc, outer, members, name, token)
 }
 
 /// Behind `async` and a key.
@@ -126,7 +176,9 @@ pub fn on_async_method(
     members: Seq<Property>,
     key: Key,
     token: &Token,
-) -> Result<State, StepEnd> {
+) -> Result<State, StepEnd>
+    ensures { Steps (spec.on_async_method outer members key token.now.kind) result }
+{
     if is_open_paren(token) {
         let head = Head::Method(true, members, key);
         return to(outer, At::Parameters(head, Seq::new(alloc)));
@@ -135,7 +187,9 @@ pub fn on_async_method(
 }
 
 /// Behind a method.
-pub fn on_property_end(outer: Outer, members: Seq<Property>, token: &Token) -> Result<State, StepEnd> {
+pub fn on_property_end(outer: Outer, members: Seq<Property>, token: &Token) -> Result<State, StepEnd>
+    ensures { Steps (spec.on_property_end outer members token.now.kind) result }
+{
     if is_comma(token) {
         return to(outer, At::Key(members));
     }
@@ -152,7 +206,9 @@ pub fn on_function_name(
     is_declaration: bool,
     is_async: bool,
     token: &Token,
-) -> Result<State, StepEnd> {
+) -> Result<State, StepEnd>
+    ensures { Steps (spec.on_function_name outer is_declaration is_async token.now.place token.now.kind) result }
+{
     match &token.kind {
         TokenKind::Name(units) => {
             let name = name_at(alloc, token.place, units)?;
@@ -178,7 +234,9 @@ pub fn on_function_name(
 }
 
 /// Before the parameters of a function.
-pub fn on_parameters_open(alloc: Global, outer: Outer, head: Head, token: &Token) -> Result<State, StepEnd> {
+pub fn on_parameters_open(alloc: Global, outer: Outer, head: Head, token: &Token) -> Result<State, StepEnd>
+    ensures { Steps (spec.on_parameters_open outer head token.now.kind) result }
+{
     if is_open_paren(token) {
         return to(outer, At::Parameters(head, Seq::new(alloc)));
     }
@@ -192,7 +250,9 @@ pub fn on_parameters(
     head: Head,
     names: Seq<Name>,
     token: &Token,
-) -> Result<State, StepEnd> {
+) -> Result<State, StepEnd>
+    ensures { Steps (spec.on_parameters outer head names token.now.place token.now.kind) result }
+{
     match &token.kind {
         TokenKind::Name(units) => {
             let name = name_at(alloc, token.place, units)?;
@@ -213,7 +273,9 @@ pub fn on_parameter_read(
     names: Seq<Name>,
     name: Name,
     token: &Token,
-) -> Result<State, StepEnd> {
+) -> Result<State, StepEnd>
+    ensures { Steps (spec.on_parameter_read outer head names name token.now.kind) result }
+{
     let names = with(names, name)?;
     match &token.kind {
         TokenKind::Punctuator(sign) => match sign {
@@ -226,7 +288,9 @@ pub fn on_parameter_read(
 }
 
 /// The constructs that a function's body opens, the object of a method among them.
-fn body_constructs(head: &Head) -> usize {
+pub fn head_constructs(head: &Head) -> usize
+    ensures { result ≡ spec.head_constructs head.now }
+{
     match head {
         Head::Method(_, _, _) => 2,
         Head::Declaration(_, _) | Head::Expression(_, _) => 1,
@@ -240,9 +304,11 @@ pub fn on_body_open(
     head: Head,
     names: Seq<Name>,
     token: &Token,
-) -> Result<State, StepEnd> {
+) -> Result<State, StepEnd>
+    ensures { Steps (spec.on_body_open outer head names token.now.kind) result }
+{
     if is_open_brace(token) {
-        let more = body_constructs(&head);
+        let more = head_constructs(&head);
         return open_block(alloc, outer, more, Block::Function(head, names));
     }
     refuse()

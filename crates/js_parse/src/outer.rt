@@ -82,14 +82,21 @@ pub fn plus(a: usize, b: usize) -> usize
     if a < 1000 && b < 1000 { a + b } else { 1000 }
 }
 
+/// How many constructs are open within the innermost of these frames.
+pub fn inside(frames: &Stack<Open>) -> usize
+    ensures { result ≡ spec.constructs_in frames.now }
+{
+    match frames.top() {
+        Some(open) => open.constructs,
+        None => 0,
+    }
+}
+
 /// How many constructs are open within the innermost frame.
 pub fn constructs(outer: &Outer) -> usize
     ensures { result ≡ spec.constructs outer.now }
 {
-    match outer.frames.top() {
-        Some(open) => open.constructs,
-        None => 0,
-    }
+    inside(&outer.frames)
 }
 
 /// One more frame, within which so many constructs are open.

@@ -1,16 +1,22 @@
-use crate::machine::{Purpose, Declared, Body, Head, Block, Frame, Opening, At, Outer, State, Asked, Refusal, StepEnd};
-use crate::outer::{refused, refuse, refuse_at, to, with, boxed, push, pop, wait, wait_body, open_block, in_body, complete, settle};
-use crate::tokens::{is_open_paren, is_close_paren, is_open_brace, is_semicolon, is_comma, is_equal, is_else, is_finally, is_default, may_end, is_async, is_of, name_at};
-use crate::expressions::begin;
-use js_lex::{Punctuator, Reserved, Token, TokenKind};
-use js_tree::{
-    ArrowBody, Catch, DeclareKind, Declaration, Expr, ForBegin, Function, Item, Name, Property, Stmt,
-};
-use js_words::Spot;
-use std::alloc::Global;
-use wd_base::Seq;
+ghost use Rattle.std.specs.Prelude.{◌≡◌, IfOk, None};
+ghost use Rattle.js_parse.specs.Outer as machine;
+ghost use Rattle.js_parse.specs.Statements as spec;
+ghost use Rattle.js_parse.specs.Outer.{Step};
+ghost use Rattle.js_parse.specs.Steps.{Steps};
 
-fn not_in_body(outer: Outer, at: At) -> Result<State, StepEnd> {
+use crate::machine::{Purpose, Declared, Body, Head, Block, Frame, Opening, At, Outer, State, Asked, Refusal, StepEnd};
+use crate::outer::{because, refused, refuse, refuse_at, to, with, boxed, push, pop, wait, wait_body, open_block, in_body, complete, settle};
+use crate::tokens::{is_open_paren, is_close_paren, is_open_brace, is_semicolon, is_comma, is_equal, is_else, is_finally, is_default, may_end, is_of, name_at};
+use crate::begins::{begin};
+use js_lex::{Punctuator, Reserved, Token, TokenKind};
+use js_tree::{ArrowBody, Catch, DeclareKind, Declaration, Expr, ForBegin, Function, Name, Property, Stmt};
+use js_words::{Spot};
+use std::alloc::{Global};
+use wd_base::{NoMemory, Seq};
+
+fn not_in_body(outer: Outer, at: At) -> Result<State, StepEnd>
+    ensures { Steps (spec.not_in_body outer at) result }
+{
     if in_body(&outer) {
         refuse_at(Spot::StatementBegin)
     } else {
@@ -18,17 +24,34 @@ fn not_in_body(outer: Outer, at: At) -> Result<State, StepEnd> {
     }
 }
 
-fn declare(alloc: Global, outer: Outer, kind: DeclareKind, in_for: bool) -> Result<State, StepEnd> {
-    let declared = Declared {
+fn declares(alloc: Global, kind: DeclareKind, in_for: bool) -> Declared
+    ensures { result ≡ spec.declares kind in_for }
+{
+    Declared {
         kind,
         in_for,
         declarations: Seq::new(alloc),
-    };
-    to(outer, At::DeclaredName(declared))
+    }
+}
+
+/// `let` or `const` at the begin of a statement.
+fn declare(alloc: Global, outer: Outer, kind: DeclareKind) -> Result<State, StepEnd>
+    ensures { Steps (spec.not_in_body outer (At.DeclaredName (spec.declares kind false))) result }
+{
+    not_in_body(outer, At::DeclaredName(declares(alloc, kind, false)))
+}
+
+/// .. behind `for (`.
+fn declare_in_for(alloc: Global, outer: Outer, kind: DeclareKind) -> Result<State, StepEnd>
+    ensures { Steps (machine.to outer (At.DeclaredName (spec.declares kind true))) result }
+{
+    to(outer, At::DeclaredName(declares(alloc, kind, true)))
 }
 
 /// `export` stands at the top level, and once at most.
-fn on_export(outer: Outer) -> Result<State, StepEnd> {
+fn on_export(outer: Outer) -> Result<State, StepEnd>
+    ensures { Steps (spec.on_export outer) result }
+{
     if outer.frames.is_empty() && !outer.exported {
         to(outer, At::ExportDefault)
     } else {
@@ -36,12 +59,16 @@ fn on_export(outer: Outer) -> Result<State, StepEnd> {
     }
 }
 
-fn expression_statement(alloc: Global, outer: Outer, token: &Token) -> Result<State, StepEnd> {
+fn expression_statement(alloc: Global, outer: Outer, token: &Token) -> Result<State, StepEnd>
+    ensures { Steps (spec.expression_statement outer token.now) result }
+{
     let outer = push(outer, 0, Frame::Purpose(Purpose::Statement))?;
     begin(alloc, outer, token)
 }
 
-fn begin_by_word(alloc: Global, outer: Outer, word: Reserved, token: &Token) -> Result<State, StepEnd> {
+fn begin_by_word(alloc: Global, outer: Outer, word: Reserved, token: &Token) -> Result<State, StepEnd>
+    ensures { Steps (spec.begin_by_word outer token.now word) result }
+{
     match word {
         Reserved::If => to(outer, At::Opening(Opening::If)),
         Reserved::While => to(outer, At::Opening(Opening::While)),
@@ -53,30 +80,24 @@ fn begin_by_word(alloc: Global, outer: Outer, word: Reserved, token: &Token) -> 
         Reserved::Try => to(outer, At::TryOpen),
         Reserved::Function => not_in_body(outer, At::FunctionName(true, false)),
         Reserved::Export => on_export(outer),
-        Reserved::Let => {
-            if in_body(&outer) {
-                return refuse_at(Spot::StatementBegin);
-            }
-            declare(alloc, outer, DeclareKind::Let, false)
-        }
-        Reserved::Const => {
-            if in_body(&outer) {
-                return refuse_at(Spot::StatementBegin);
-            }
-            declare(alloc, outer, DeclareKind::Const, false)
-        }
+        Reserved::Let => declare(alloc, outer, DeclareKind::Let),
+        Reserved::Const => declare(alloc, outer, DeclareKind::Const),
         _ => expression_statement(alloc, outer, token),
     }
 }
 
 /// `{` as the begin of a statement: the braces of a body are the body.
-fn begin_block(alloc: Global, outer: Outer) -> Result<State, StepEnd> {
+fn begin_block(alloc: Global, outer: Outer) -> Result<State, StepEnd>
+    ensures { Steps (machine.open_block outer (spec.block_constructs (machine.in_body outer)) Block.Plain) result }
+{
     let more = if in_body(&outer) { 0 } else { 1 };
     open_block(alloc, outer, more, Block::Plain)
 }
 
 /// The end of the script, where a statement may begin.
-fn end_script(outer: Outer) -> Result<State, StepEnd> {
+fn end_script(outer: Outer) -> Result<State, StepEnd>
+    ensures { Steps (spec.end_script outer) result }
+{
     if outer.frames.is_empty() {
         to(outer, At::Statement)
     } else {
@@ -85,7 +106,9 @@ fn end_script(outer: Outer) -> Result<State, StepEnd> {
 }
 
 /// A statement begins.
-pub fn on_statement(alloc: Global, outer: Outer, token: &Token) -> Result<State, StepEnd> {
+pub fn on_statement(alloc: Global, outer: Outer, token: &Token) -> Result<State, StepEnd>
+    ensures { Steps (spec.on_statement outer token.now) result }
+{
     match &token.kind {
         TokenKind::Punctuator(sign) => match sign {
             Punctuator::OpenBrace => begin_block(alloc, outer),
@@ -106,7 +129,9 @@ fn close_function(
     head: Head,
     parameters: Seq<Name>,
     body: Seq<Stmt>,
-) -> Result<State, StepEnd> {
+) -> Result<State, StepEnd>
+    ensures { Steps (spec.close_function outer head parameters body) result }
+{
     match head {
         Head::Declaration(is_async, name) => {
             let function = Function {
@@ -137,7 +162,9 @@ fn close_function(
 }
 
 /// The statements between braces are whole.
-fn close(alloc: Global, outer: Outer, block: Block, body: Seq<Stmt>) -> Result<State, StepEnd> {
+fn close(alloc: Global, outer: Outer, block: Block, body: Seq<Stmt>) -> Result<State, StepEnd>
+    ensures { Steps (spec.close outer block body) result }
+{
     match block {
         Block::Plain => complete(alloc, outer, Stmt::Block(body)),
         Block::Function(head, parameters) => close_function(alloc, outer, head, parameters, body),
@@ -163,7 +190,9 @@ fn close(alloc: Global, outer: Outer, block: Block, body: Seq<Stmt>) -> Result<S
     }
 }
 
-fn close_block(alloc: Global, outer: Outer) -> Result<State, StepEnd> {
+fn close_block(alloc: Global, outer: Outer) -> Result<State, StepEnd>
+    ensures { Steps (spec.close_block outer) result }
+{
     let (outer, frame) = pop(outer);
     match frame {
         Some(Frame::Block(block, body)) => close(alloc, outer, block, body),
@@ -172,14 +201,22 @@ fn close_block(alloc: Global, outer: Outer) -> Result<State, StepEnd> {
 }
 
 /// A token that is refused on its line is refused behind its line end too.
-fn behind_end(step: Result<State, StepEnd>, why: Refusal) -> Result<State, StepEnd> {
+fn behind_end(step: Result<State, StepEnd>, why: Refusal) -> Result<State, StepEnd>
+    ensures { (made : Step) → Steps made step → Steps (spec.behind_end made why) result }
+{
     match step {
-        Err(StepEnd::Refused(Refusal::Token(_))) => refused(with_end(why)),
-        step => step,
+        Ok(state) => Ok(state),
+        Err(StepEnd::NoMemory) => Err(StepEnd::NoMemory),
+        Err(StepEnd::Refused(found)) => match found {
+            Refusal::Token(_) => refused(with_end(why)),
+            found => refused(found),
+        },
     }
 }
 
-fn with_end(why: Refusal) -> Refusal {
+fn with_end(why: Refusal) -> Refusal
+    ensures { result ≡ spec.with_end why }
+{
     match why {
         Refusal::Token(asked) => Refusal::Token(Asked {
             before: asked.before,
@@ -191,7 +228,9 @@ fn with_end(why: Refusal) -> Refusal {
 }
 
 /// The token stands behind a statement that is whole, and that an `else` may follow.
-pub fn resume(alloc: Global, outer: Outer, stmt: Stmt, token: &Token) -> Result<State, StepEnd> {
+pub fn resume(alloc: Global, outer: Outer, stmt: Stmt, token: &Token) -> Result<State, StepEnd>
+    ensures { Steps (spec.resume outer stmt token.now) result }
+{
     if is_else(token) {
         let State { outer, at } = complete(alloc, outer, stmt)?;
         return match at {
@@ -204,7 +243,9 @@ pub fn resume(alloc: Global, outer: Outer, stmt: Stmt, token: &Token) -> Result<
 }
 
 /// The statement is whole but for its end. A token that is no end is refused for this reason.
-pub fn end(alloc: Global, outer: Outer, stmt: Stmt, token: &Token, why: Refusal) -> Result<State, StepEnd> {
+pub fn end(alloc: Global, outer: Outer, stmt: Stmt, token: &Token, why: Refusal) -> Result<State, StepEnd>
+    ensures { Steps (spec.end outer stmt token.now why) result }
+{
     if is_semicolon(token) {
         return complete(alloc, outer, stmt);
     }
@@ -215,7 +256,9 @@ pub fn end(alloc: Global, outer: Outer, stmt: Stmt, token: &Token, why: Refusal)
 }
 
 /// Behind the first branch of an `if`.
-pub fn after_then(alloc: Global, outer: Outer, test: Expr, yes: Stmt, token: &Token) -> Result<State, StepEnd> {
+pub fn after_then(alloc: Global, outer: Outer, test: Expr, yes: Stmt, token: &Token) -> Result<State, StepEnd>
+    ensures { Steps (spec.after_then outer test yes token.now) result }
+{
     if is_else(token) {
         return wait_body(outer, Body::Else(test, yes));
     }
@@ -223,7 +266,9 @@ pub fn after_then(alloc: Global, outer: Outer, test: Expr, yes: Stmt, token: &To
 }
 
 /// Behind `if`, `while` or `for`.
-pub fn on_opening(outer: Outer, opening: Opening, token: &Token) -> Result<State, StepEnd> {
+pub fn on_opening(outer: Outer, opening: Opening, token: &Token) -> Result<State, StepEnd>
+    ensures { Steps (spec.on_opening outer opening token.now.kind) result }
+{
     if !is_open_paren(token) {
         return refuse();
     }
@@ -234,17 +279,21 @@ pub fn on_opening(outer: Outer, opening: Opening, token: &Token) -> Result<State
     }
 }
 
-fn for_start(alloc: Global, outer: Outer, token: &Token) -> Result<State, StepEnd> {
+fn for_start(alloc: Global, outer: Outer, token: &Token) -> Result<State, StepEnd>
+    ensures { Steps (spec.for_start outer token.now) result }
+{
     let outer = push(outer, 1, Frame::Purpose(Purpose::ForStart))?;
     begin(alloc, outer, token)
 }
 
 /// Behind `for (`.
-pub fn on_for_head(alloc: Global, outer: Outer, token: &Token) -> Result<State, StepEnd> {
+pub fn on_for_head(alloc: Global, outer: Outer, token: &Token) -> Result<State, StepEnd>
+    ensures { Steps (spec.on_for_head outer token.now) result }
+{
     match &token.kind {
         TokenKind::Reserved(word) => match word {
-            Reserved::Let => declare(alloc, outer, DeclareKind::Let, true),
-            Reserved::Const => declare(alloc, outer, DeclareKind::Const, true),
+            Reserved::Let => declare_in_for(alloc, outer, DeclareKind::Let),
+            Reserved::Const => declare_in_for(alloc, outer, DeclareKind::Const),
             _ => for_start(alloc, outer, token),
         },
         TokenKind::Punctuator(sign) => match sign {
@@ -256,7 +305,9 @@ pub fn on_for_head(alloc: Global, outer: Outer, token: &Token) -> Result<State, 
 }
 
 /// Behind `for (begin;`.
-pub fn on_for_test(alloc: Global, outer: Outer, start: ForBegin, token: &Token) -> Result<State, StepEnd> {
+pub fn on_for_test(alloc: Global, outer: Outer, start: ForBegin, token: &Token) -> Result<State, StepEnd>
+    ensures { Steps (spec.on_for_test outer start token.now) result }
+{
     if is_semicolon(token) {
         return to(outer, At::ForUpdate(start, None));
     }
@@ -271,7 +322,9 @@ pub fn on_for_update(
     start: ForBegin,
     test: Option<Expr>,
     token: &Token,
-) -> Result<State, StepEnd> {
+) -> Result<State, StepEnd>
+    ensures { Steps (spec.on_for_update outer start test token.now) result }
+{
     if is_close_paren(token) {
         return wait_body(outer, Body::For(start, test, None));
     }
@@ -280,12 +333,10 @@ pub fn on_for_update(
 }
 
 /// Behind `return`.
-pub fn on_return(alloc: Global, outer: Outer, place: usize, token: &Token) -> Result<State, StepEnd> {
-    let why = Refusal::Token(Asked {
-        before: None,
-        here: Some(Spot::ExpressionBegin),
-        ended: false,
-    });
+pub fn on_return(alloc: Global, outer: Outer, place: usize, token: &Token) -> Result<State, StepEnd>
+    ensures { Steps (spec.on_return outer place token.now) result }
+{
+    let why = because(None, Some(Spot::ExpressionBegin));
     if may_end(token) || is_semicolon(token) {
         return end(alloc, outer, Stmt::Return(place, None), token, why);
     }
@@ -294,7 +345,9 @@ pub fn on_return(alloc: Global, outer: Outer, place: usize, token: &Token) -> Re
 }
 
 /// Behind `throw`.
-pub fn on_throw(alloc: Global, outer: Outer, token: &Token) -> Result<State, StepEnd> {
+pub fn on_throw(alloc: Global, outer: Outer, token: &Token) -> Result<State, StepEnd>
+    ensures { Steps (spec.on_throw outer token.now) result }
+{
     if token.after_line_end {
         return refused(Refusal::Plain);
     }
@@ -303,17 +356,17 @@ pub fn on_throw(alloc: Global, outer: Outer, token: &Token) -> Result<State, Ste
 }
 
 /// Behind `break` or `continue`.
-pub fn on_jump(alloc: Global, outer: Outer, stmt: Stmt, token: &Token) -> Result<State, StepEnd> {
-    let why = Refusal::Token(Asked {
-        before: None,
-        here: None,
-        ended: false,
-    });
+pub fn on_jump(alloc: Global, outer: Outer, stmt: Stmt, token: &Token) -> Result<State, StepEnd>
+    ensures { Steps (spec.on_jump outer stmt token.now) result }
+{
+    let why = because(None, None);
     end(alloc, outer, stmt, token, why)
 }
 
 /// A name has to be declared.
-pub fn on_declared_name(alloc: Global, outer: Outer, declared: Declared, token: &Token) -> Result<State, StepEnd> {
+pub fn on_declared_name(alloc: Global, outer: Outer, declared: Declared, token: &Token) -> Result<State, StepEnd>
+    ensures { Steps (spec.on_declared_name outer declared token.now.place token.now.kind) result }
+{
     match &token.kind {
         TokenKind::Name(units) => {
             let name = name_at(alloc, token.place, units)?;
@@ -323,7 +376,9 @@ pub fn on_declared_name(alloc: Global, outer: Outer, declared: Declared, token: 
     }
 }
 
-pub fn with_declaration(declared: Declared, name: Name, value: Option<Expr>) -> Result<Declared, StepEnd> {
+pub fn with_declaration(declared: Declared, name: Name, value: Option<Expr>) -> Result<Declared, NoMemory>
+    ensures { IfOk result (λ longer. longer ≡ spec.with_declaration declared name value) }
+{
     let Declared {
         kind,
         in_for,
@@ -338,8 +393,9 @@ pub fn with_declaration(declared: Declared, name: Name, value: Option<Expr>) -> 
 }
 
 /// A `let` without a value is declared.
-fn on_bare_name(alloc: Global, outer: Outer, declared: Declared, name: Name, token: &Token) -> Result<State, StepEnd> {
-    let declared = with_declaration(declared, name, None)?;
+fn on_bare_name(alloc: Global, outer: Outer, declared: Declared, token: &Token) -> Result<State, StepEnd>
+    ensures { Steps (spec.on_bare_name outer declared token.now) result }
+{
     if is_comma(token) {
         return to(outer, At::DeclaredName(declared));
     }
@@ -355,11 +411,7 @@ fn on_bare_name(alloc: Global, outer: Outer, declared: Declared, name: Name, tok
         }
         return refuse();
     }
-    let why = Refusal::Token(Asked {
-        before: None,
-        here: None,
-        ended: false,
-    });
+    let why = because(None, None);
     end(alloc, outer, Stmt::Declare(kind, declarations), token, why)
 }
 
@@ -370,7 +422,9 @@ pub fn on_name_declared(
     declared: Declared,
     name: Name,
     token: &Token,
-) -> Result<State, StepEnd> {
+) -> Result<State, StepEnd>
+    ensures { Steps (spec.on_name_declared outer declared name token.now) result }
+{
     if is_equal(token) {
         let more = if declared.in_for { 1 } else { 0 };
         return wait(outer, more, Purpose::Initial(declared, name));
@@ -379,13 +433,18 @@ pub fn on_name_declared(
         return wait(outer, 1, Purpose::ForOf(declared.kind, name));
     }
     match declared.kind {
-        DeclareKind::Let => on_bare_name(alloc, outer, declared, name, token),
+        DeclareKind::Let => {
+            let declared = with_declaration(declared, name, None)?;
+            on_bare_name(alloc, outer, declared, token)
+        }
         DeclareKind::Const => refuse(),
     }
 }
 
 /// Behind `try`.
-pub fn on_try(alloc: Global, outer: Outer, token: &Token) -> Result<State, StepEnd> {
+pub fn on_try(alloc: Global, outer: Outer, token: &Token) -> Result<State, StepEnd>
+    ensures { Steps (spec.on_try outer token.now.kind) result }
+{
     if is_open_brace(token) {
         return open_block(alloc, outer, 1, Block::Try);
     }
@@ -393,7 +452,9 @@ pub fn on_try(alloc: Global, outer: Outer, token: &Token) -> Result<State, StepE
 }
 
 /// Behind `try {}`.
-pub fn after_try(outer: Outer, tried: Seq<Stmt>, token: &Token) -> Result<State, StepEnd> {
+pub fn after_try(outer: Outer, tried: Seq<Stmt>, token: &Token) -> Result<State, StepEnd>
+    ensures { Steps (spec.after_try outer tried token.now.kind) result }
+{
     match &token.kind {
         TokenKind::Reserved(word) => match word {
             Reserved::Catch => to(outer, At::CatchOpen(tried)),
@@ -405,7 +466,9 @@ pub fn after_try(outer: Outer, tried: Seq<Stmt>, token: &Token) -> Result<State,
 }
 
 /// Behind `catch`.
-pub fn on_catch(alloc: Global, outer: Outer, tried: Seq<Stmt>, token: &Token) -> Result<State, StepEnd> {
+pub fn on_catch(alloc: Global, outer: Outer, tried: Seq<Stmt>, token: &Token) -> Result<State, StepEnd>
+    ensures { Steps (spec.on_catch outer tried token.now.kind) result }
+{
     match &token.kind {
         TokenKind::Punctuator(sign) => match sign {
             Punctuator::OpenParen => to(outer, At::CatchName(tried)),
@@ -416,7 +479,9 @@ pub fn on_catch(alloc: Global, outer: Outer, tried: Seq<Stmt>, token: &Token) ->
     }
 }
 
-pub fn on_catch_name(alloc: Global, outer: Outer, tried: Seq<Stmt>, token: &Token) -> Result<State, StepEnd> {
+pub fn on_catch_name(alloc: Global, outer: Outer, tried: Seq<Stmt>, token: &Token) -> Result<State, StepEnd>
+    ensures { Steps (spec.on_catch_name outer tried token.now.place token.now.kind) result }
+{
     match &token.kind {
         TokenKind::Name(units) => {
             let name = name_at(alloc, token.place, units)?;
@@ -426,7 +491,9 @@ pub fn on_catch_name(alloc: Global, outer: Outer, tried: Seq<Stmt>, token: &Toke
     }
 }
 
-pub fn on_catch_close(outer: Outer, tried: Seq<Stmt>, name: Name, token: &Token) -> Result<State, StepEnd> {
+pub fn on_catch_close(outer: Outer, tried: Seq<Stmt>, name: Name, token: &Token) -> Result<State, StepEnd>
+    ensures { Steps (spec.on_catch_close outer tried name token.now.kind) result }
+{
     if is_close_paren(token) {
         return to(outer, At::CatchBody(tried, name));
     }
@@ -439,7 +506,9 @@ pub fn on_catch_body(
     tried: Seq<Stmt>,
     name: Name,
     token: &Token,
-) -> Result<State, StepEnd> {
+) -> Result<State, StepEnd>
+    ensures { Steps (spec.on_catch_body outer tried name token.now.kind) result }
+{
     if is_open_brace(token) {
         return open_block(alloc, outer, 1, Block::Catch(tried, Some(name)));
     }
@@ -447,7 +516,9 @@ pub fn on_catch_body(
 }
 
 /// Behind `try {} catch {}`.
-pub fn after_catch(alloc: Global, outer: Outer, tried: Seq<Stmt>, catch: Catch, token: &Token) -> Result<State, StepEnd> {
+pub fn after_catch(alloc: Global, outer: Outer, tried: Seq<Stmt>, catch: Catch, token: &Token) -> Result<State, StepEnd>
+    ensures { Steps (spec.after_catch outer tried catch token.now) result }
+{
     if is_finally(token) {
         return to(outer, At::FinallyOpen(tried, Some(catch)));
     }
@@ -465,7 +536,9 @@ pub fn on_finally(
     tried: Seq<Stmt>,
     catch: Option<Catch>,
     token: &Token,
-) -> Result<State, StepEnd> {
+) -> Result<State, StepEnd>
+    ensures { Steps (spec.on_finally outer tried catch token.now.kind) result }
+{
     if is_open_brace(token) {
         return open_block(alloc, outer, 1, Block::Finally(tried, catch));
     }
@@ -473,7 +546,9 @@ pub fn on_finally(
 }
 
 /// Behind `export`.
-pub fn on_export_word(outer: Outer, token: &Token) -> Result<State, StepEnd> {
+pub fn on_export_word(outer: Outer, token: &Token) -> Result<State, StepEnd>
+    ensures { Steps (spec.on_export_word outer token.now.kind) result }
+{
     if is_default(token) {
         return to(outer, At::ExportObject);
     }
@@ -481,7 +556,9 @@ pub fn on_export_word(outer: Outer, token: &Token) -> Result<State, StepEnd> {
 }
 
 /// Behind `export default`.
-pub fn on_export_object(alloc: Global, outer: Outer, token: &Token) -> Result<State, StepEnd> {
+pub fn on_export_object(alloc: Global, outer: Outer, token: &Token) -> Result<State, StepEnd>
+    ensures { Steps (spec.on_export_object outer token.now.kind) result }
+{
     if is_open_brace(token) {
         let outer = push(outer, 0, Frame::Export)?;
         return to(outer, At::Key(Seq::new(alloc)));
@@ -489,24 +566,10 @@ pub fn on_export_object(alloc: Global, outer: Outer, token: &Token) -> Result<St
     refuse()
 }
 
-/// The exported object is whole.
-pub fn export(outer: Outer, members: Seq<Property>) -> Result<State, StepEnd> {
-    let Outer {
-        items,
-        exported: _,
-        frames,
-    } = outer;
-    let items = with(items, Item::Export(members))?;
-    let outer = Outer {
-        items,
-        exported: true,
-        frames,
-    };
-    to(outer, At::AfterExport)
-}
-
 /// Behind `export default {}`.
-pub fn after_export(alloc: Global, outer: Outer, token: &Token) -> Result<State, StepEnd> {
+pub fn after_export(alloc: Global, outer: Outer, token: &Token) -> Result<State, StepEnd>
+    ensures { Steps (spec.after_export outer token.now) result }
+{
     if is_semicolon(token) {
         return to(outer, At::Statement);
     }

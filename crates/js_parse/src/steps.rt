@@ -1,28 +1,23 @@
-use crate::machine::{Callee, Head, At, Outer, State, Refusal, StepEnd};
-use crate::outer::{refused, plus, constructs};
-use crate::tokens::{is_async};
-use crate::expressions::{
-    after_async, after_operand, begin, on_argument, on_arrow, on_arrow_body, on_cover_name,
-    on_cover_open, on_covered, on_element, on_member, on_new, on_new_open,
-};
-use crate::objects::{
-    on_async_key, on_async_method, on_body_open, on_function_name, on_key, on_name_key,
-    on_other_key, on_parameter_read, on_parameters, on_parameters_open, on_property_end,
-};
-use crate::statements::{
-    after_catch, after_export, after_then, after_try, on_catch, on_catch_body, on_catch_close,
-    on_catch_name, on_declared_name, on_export_object, on_export_word, on_finally, on_for_head,
-    on_for_test, on_for_update, on_jump, on_name_declared, on_opening, on_return, on_statement,
-    on_throw, on_try,
-};
+ghost use Rattle.std.specs.Prelude.{◌≡◌};
+ghost use Rattle.js_parse.specs.Machine as spec;
+ghost use Rattle.js_parse.specs.Steps.{Steps};
+
+use crate::machine::{Callee, At, Outer, State, Refusal, StepEnd};
+use crate::outer::{refused, refuse, plus, constructs};
+use crate::begins::{begin};
 use crate::values::{after_value, after_whole};
-use js_lex::Token;
-use std::alloc::Global;
+use crate::expressions::{after_async, after_operand, on_argument, on_arrow, on_arrow_body, on_cover_name, on_cover_open, on_covered, on_element, on_member, on_new, on_new_open};
+use crate::objects::{on_async_key, on_async_method, on_body_open, on_function_name, on_key, on_name_key, on_other_key, on_parameter_read, on_parameters, on_parameters_open, on_property_end, head_constructs};
+use crate::statements::{after_catch, after_export, after_then, after_try, on_catch, on_catch_body, on_catch_close, on_catch_name, on_declared_name, on_export_object, on_export_word, on_finally, on_for_head, on_for_test, on_for_update, on_jump, on_name_declared, on_opening, on_return, on_statement, on_throw, on_try};
+use js_lex::{Token};
+use std::alloc::{Global};
 
 /// So many constructs may be open.
 pub const MOST_OPEN: usize = 128;
 
-fn step_in(alloc: Global, outer: Outer, at: At, token: &Token) -> Result<State, StepEnd> {
+fn step_in(alloc: Global, outer: Outer, at: At, token: &Token) -> Result<State, StepEnd>
+    ensures { Steps (spec.step_at outer at token.now) result }
+{
     match at {
         At::Statement => on_statement(alloc, outer, token),
         At::Begin => begin(alloc, outer, token),
@@ -50,7 +45,9 @@ fn step_in(alloc: Global, outer: Outer, at: At, token: &Token) -> Result<State, 
     }
 }
 
-fn step_in_object(alloc: Global, outer: Outer, at: At, token: &Token) -> Result<State, StepEnd> {
+fn step_in_object(alloc: Global, outer: Outer, at: At, token: &Token) -> Result<State, StepEnd>
+    ensures { Steps (spec.step_at outer at token.now) result }
+{
     match at {
         At::Key(members) => on_key(alloc, outer, members, token),
         At::NameKey(members, name) => on_name_key(alloc, outer, members, name, token),
@@ -71,7 +68,9 @@ fn step_in_object(alloc: Global, outer: Outer, at: At, token: &Token) -> Result<
     }
 }
 
-fn step_in_statement(alloc: Global, outer: Outer, at: At, token: &Token) -> Result<State, StepEnd> {
+fn step_in_statement(alloc: Global, outer: Outer, at: At, token: &Token) -> Result<State, StepEnd>
+    ensures { Steps (spec.step_at outer at token.now) result }
+{
     match at {
         At::DeclaredName(declared) => on_declared_name(alloc, outer, declared, token),
         At::NameDeclared(declared, name) => {
@@ -95,18 +94,14 @@ fn step_in_statement(alloc: Global, outer: Outer, at: At, token: &Token) -> Resu
         At::FinallyOpen(tried, catch) => on_finally(alloc, outer, tried, catch, token),
         At::ExportDefault => on_export_word(outer, token),
         At::ExportObject => on_export_object(alloc, outer, token),
-        _ => after_export(alloc, outer, token),
+        At::AfterExport => after_export(alloc, outer, token),
+        _ => refuse(),
     }
 }
 
-fn parameter_constructs(head: &Head) -> usize {
-    match head {
-        Head::Method(_, _, _) => 2,
-        Head::Declaration(_, _) | Head::Expression(_, _) => 1,
-    }
-}
-
-fn callee_constructs(callee: &Callee) -> usize {
+fn callee_constructs(callee: &Callee) -> usize
+    ensures { result ≡ spec.callee_constructs callee.now }
+{
     match callee {
         Callee::Value(_, accesses) => plus(*accesses, 1),
         Callee::New(_) => 1,
@@ -114,12 +109,14 @@ fn callee_constructs(callee: &Callee) -> usize {
 }
 
 /// How many constructs are open behind what was read, beside those of the innermost frame.
-fn more_constructs(at: &At) -> usize {
+fn more_constructs(at: &At) -> usize
+    ensures { result ≡ spec.more_constructs at.now }
+{
     match at {
         At::Operand(_, accesses) => *accesses,
         At::MemberName(_, accesses) => plus(*accesses, 1),
         At::NextArgument(callee, _) => callee_constructs(callee),
-        At::Parameters(head, _) | At::ParameterRead(head, _, _) => parameter_constructs(head),
+        At::Parameters(head, _) | At::ParameterRead(head, _, _) => head_constructs(head),
         At::CoverOpen(_, _) | At::CoverName(_, _, _) | At::NextElement(_) => 1,
         At::Key(_) | At::NameKey(_, _) | At::OtherKey(_, _) | At::AsyncKey(_, _) => 1,
         At::AsyncMethod(_, _) | At::PropertyEnd(_) => 1,
@@ -130,12 +127,16 @@ fn more_constructs(at: &At) -> usize {
 }
 
 /// No more constructs are open than may be.
-fn is_shallow(state: &State) -> bool {
+fn is_shallow(state: &State) -> bool
+    ensures { result ≡ spec.is_shallow state.now }
+{
     plus(constructs(&state.outer), more_constructs(&state.at)) <= MOST_OPEN
 }
 
 /// What the token does.
-pub fn step(alloc: Global, state: State, token: &Token) -> Result<State, StepEnd> {
+pub fn step(alloc: Global, state: State, token: &Token) -> Result<State, StepEnd>
+    ensures { Steps (spec.step state token.now) result }
+{
     let State { outer, at } = state;
     let state = step_in(alloc, outer, at, token)?;
     if is_shallow(&state) {

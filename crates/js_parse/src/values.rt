@@ -1,19 +1,24 @@
-use crate::machine::{Operator, Tail, Callee, Purpose, Declared, Body, Frame, At, Outer, State, Asked, Refusal, StepEnd};
-use crate::outer::{because, refused, refuse, refuse_at, to, with, boxed, plus, constructs, pop, wait, wait_operand, wait_tail, wait_body};
-use crate::tokens::{is_close_bracket, is_close_paren, is_semicolon, is_comma, is_colon, is_async};
-use crate::expressions::call;
-use crate::objects::close_object;
-use crate::statements::{end, with_declaration};
-use js_lex::{Punctuator, TemplatePart, Token, TokenKind};
-use js_tree::{
-    ArrowBody, BinaryOp, DeclareKind, Expr, ForBegin, Key, Name, Property, Stmt, TemplateItem,
-    UpdateSide,
-};
-use js_words::Spot;
-use std::alloc::Global;
-use wd_base::{NoMemory, Seq, TryClone, Units};
+ghost use Rattle.std.specs.Prelude.{◌≡◌, IfOk};
+ghost use Rattle.js_tree.specs.declared.tree.Expr.{out-Expr};
+ghost use Rattle.js_parse.specs.Shapes.{strength as strength_of};
+ghost use Rattle.js_parse.specs.Values as spec;
+ghost use Rattle.js_parse.specs.Steps.{Steps, Gives, Folds};
 
-fn binary_op(sign: Punctuator) -> Option<BinaryOp> {
+use crate::machine::{Operator, Tail, Callee, Purpose, Declared, Body, Frame, Open, At, Outer, State, StepEnd};
+use crate::outer::{because, refuse, refuse_at, to, with, boxed, plus, inside, pop, wait, wait_operand, wait_tail, wait_body};
+use crate::tokens::{is_close_paren, is_close_bracket, is_semicolon, is_comma, is_colon};
+use crate::objects::{close_object};
+use crate::statements::{end, with_declaration};
+use crate::stack::{Stack};
+use js_lex::{Punctuator, TemplatePart, Token, TokenKind};
+use js_tree::{ArrowBody, BinaryOp, Expr, ForBegin, Property, Stmt, TemplateItem, UpdateSide};
+use js_words::{Spot};
+use std::alloc::{Global};
+use wd_base::{NoMemory, Seq, TryClone};
+
+fn binary_op(sign: Punctuator) -> Option<BinaryOp>
+    ensures { result ≡ spec.binary_op sign }
+{
     match sign {
         Punctuator::QuestionQuestion => Some(BinaryOp::Coalesce),
         Punctuator::OrOr => Some(BinaryOp::Or),
@@ -34,7 +39,9 @@ fn binary_op(sign: Punctuator) -> Option<BinaryOp> {
 }
 
 /// How tightly an operator binds.
-fn strength(op: BinaryOp) -> u8 {
+fn strength(op: BinaryOp) -> u8
+    ensures { result ≡ strength_of op }
+{
     match op {
         BinaryOp::Coalesce | BinaryOp::Or => 1,
         BinaryOp::And => 2,
@@ -53,7 +60,9 @@ enum Logic {
     Other,
 }
 
-fn logic_of(op: BinaryOp) -> Logic {
+fn logic_of(op: BinaryOp) -> Logic
+    ensures { result ≡ spec.logic_of op }
+{
     match op {
         BinaryOp::Coalesce => Logic::Coalescing,
         BinaryOp::Or | BinaryOp::And => Logic::AndOr,
@@ -61,7 +70,9 @@ fn logic_of(op: BinaryOp) -> Logic {
     }
 }
 
-fn are_mixed(a: Logic, b: Logic) -> bool {
+fn are_mixed(a: Logic, b: Logic) -> bool
+    ensures { result ≡ spec.are_mixed a b }
+{
     match a {
         Logic::Coalescing => match b {
             Logic::AndOr => true,
@@ -75,7 +86,9 @@ fn are_mixed(a: Logic, b: Logic) -> bool {
     }
 }
 
-fn outermost(value: &Expr) -> Logic {
+fn outermost(value: &Expr) -> Logic
+    ensures { result ≡ spec.outermost value.now }
+{
     match value {
         Expr::Binary(op, _, _) => logic_of(*op),
         _ => Logic::Other,
@@ -83,7 +96,9 @@ fn outermost(value: &Expr) -> Logic {
 }
 
 /// The operator that waits, if one does.
-fn waiting(outer: &Outer) -> Logic {
+fn waiting(outer: &Outer) -> Logic
+    ensures { result ≡ spec.waiting outer.now }
+{
     match outer.frames.top() {
         Some(open) => match &open.frame {
             Frame::Operator(operator) => match operator {
@@ -96,22 +111,20 @@ fn waiting(outer: &Outer) -> Logic {
     }
 }
 
-/// The innermost frame is an operator that binds at least so tightly.
-fn binds(outer: &Outer, least: u8) -> bool {
-    match outer.frames.top() {
-        Some(open) => match &open.frame {
-            Frame::Operator(operator) => match operator {
-                Operator::Binary(_, op) => least <= strength(*op),
-                _ => true,
-            },
-            _ => false,
-        },
-        None => false,
+/// The operator binds at least so tightly.
+fn binds(least: u8, operator: &Operator) -> bool
+    ensures { result ≡ spec.operator_binds least operator.now }
+{
+    match operator {
+        Operator::Binary(_, op) => least <= strength(*op),
+        _ => true,
     }
 }
 
 /// The operator with its operand. A value that cannot be written to is refused behind `++`.
-fn apply(alloc: Global, operator: Operator, value: Expr) -> Result<Expr, StepEnd> {
+fn apply(alloc: Global, operator: Operator, value: Expr) -> Result<Expr, StepEnd>
+    ensures { Gives (spec.apply operator value) result }
+{
     match operator {
         Operator::Binary(left, op) => {
             Ok(Expr::Binary(op, boxed(alloc, left)?, boxed(alloc, value)?))
@@ -128,65 +141,113 @@ fn apply(alloc: Global, operator: Operator, value: Expr) -> Result<Expr, StepEnd
 /// The operators that bind at least so tightly get their operand.
 fn fold(
     alloc: Global,
-    outer: Outer,
     least: u8,
+    frames: Stack<Open>,
     value: Expr,
-) -> Result<(Outer, Expr), StepEnd> {
-    if !binds(&outer, least) {
-        return Ok((outer, value));
-    }
-    let (outer, frame) = pop(outer);
-    match frame {
-        Some(Frame::Operator(operator)) => {
-            let value = apply(alloc, operator, value)?;
-            fold(alloc, outer, least, value)
+) -> Result<(Stack<Open>, Expr), StepEnd>
+    ensures { Folds (spec.fold least frames value) result }
+{
+    let mut frames = frames;
+    match frames.pop() {
+        None => Ok((frames, value)),
+        Some(open) => {
+            let Open { constructs, frame } = open;
+            match frame {
+                Frame::Operator(operator) => {
+                    if binds(least, &operator) {
+                        let value = apply(alloc, operator, value)?;
+                        fold(alloc, least, frames, value)
+                    } else {
+                        let frame = Frame::Operator(operator);
+                        Ok((frames.with(Open { constructs, frame })?, value))
+                    }
+                }
+                frame => Ok((frames.with(Open { constructs, frame })?, value)),
+            }
         }
-        _ => Err(StepEnd::Refused(because(None, None))),
     }
 }
 
-/// A binary operator behind an operand.
-fn binary(alloc: Global, outer: Outer, op: BinaryOp, value: Expr, token: &Token) -> Result<State, StepEnd> {
-    let (outer, value) = fold(alloc, outer, 7, value)?;
-    // prefix operators end before it, and the operators of its chain do not
-    let open = constructs(&outer);
-    let (outer, value) = fold(alloc, outer, strength(op), value)?;
+/// A binary operator behind its left operand, with so many constructs open around it.
+fn joins(
+    alloc: Global,
+    outer: Outer,
+    op: BinaryOp,
+    inside: usize,
+    value: Expr,
+    token: &Token,
+) -> Result<State, StepEnd>
+    ensures { Steps (spec.joins outer op inside token.now (record { frames = frames; value = value })) result }
+{
     if are_mixed(logic_of(op), outermost(&value)) || are_mixed(logic_of(op), waiting(&outer)) {
         return after_whole(alloc, outer, value, token);
     }
-    wait_operand(outer, plus(open, 1), Operator::Binary(value, op))
+    wait_operand(outer, plus(inside, 1), Operator::Binary(value, op))
 }
 
-/// A token behind a value that a binary operator or `?` may follow.
-pub fn after_value(alloc: Global, outer: Outer, value: Expr, token: &Token) -> Result<State, StepEnd> {
-    let sign = match &token.kind {
-        TokenKind::Punctuator(sign) => *sign,
-        _ => return after_whole(alloc, outer, value, token),
+/// A binary operator. Prefix operators end before it, and the operators of its chain do not.
+fn binary(alloc: Global, outer: Outer, op: BinaryOp, value: Expr, token: &Token) -> Result<State, StepEnd>
+    ensures { Steps (spec.on_binary outer op value token.now) result }
+{
+    let Outer {
+        items,
+        exported,
+        frames,
+    } = outer;
+    let (frames, value) = fold(alloc, 7, frames, value)?;
+    let inside = inside(&frames);
+    let (frames, value) = fold(alloc, strength(op), frames, value)?;
+    let outer = Outer {
+        items,
+        exported,
+        frames,
     };
+    joins(alloc, outer, op, inside, value, token)
+}
+
+/// `?` behind its test.
+fn tests(alloc: Global, outer: Outer, value: Expr) -> Result<State, StepEnd>
+    ensures { Steps (spec.tests outer (spec.fold 1 outer.frames value)) result }
+{
+    let Outer {
+        items,
+        exported,
+        frames,
+    } = outer;
+    let (frames, test) = fold(alloc, 1, frames, value)?;
+    let outer = Outer {
+        items,
+        exported,
+        frames,
+    };
+    wait(outer, 1, Purpose::Then(test))
+}
+
+fn after_sign(alloc: Global, outer: Outer, value: Expr, token: &Token, sign: Punctuator) -> Result<State, StepEnd>
+    ensures { Steps (spec.after_operator outer value token.now sign (spec.binary_op sign)) result }
+{
     match binary_op(sign) {
         Some(op) => binary(alloc, outer, op, value, token),
         None => match sign {
-            Punctuator::Question => {
-                let (outer, test) = fold(alloc, outer, 1, value)?;
-                wait(outer, 1, Purpose::Then(test))
-            }
+            Punctuator::Question => tests(alloc, outer, value),
             _ => after_whole(alloc, outer, value, token),
         },
     }
 }
 
-/// The innermost frame ends with its value.
-fn in_tail(outer: &Outer) -> bool {
-    match outer.frames.top() {
-        Some(open) => match &open.frame {
-            Frame::Tail(_) => true,
-            _ => false,
-        },
-        None => false,
+/// A token behind a value that a binary operator or `?` may follow.
+pub fn after_value(alloc: Global, outer: Outer, value: Expr, token: &Token) -> Result<State, StepEnd>
+    ensures { Steps (spec.after_value outer value token.now) result }
+{
+    match &token.kind {
+        TokenKind::Punctuator(sign) => after_sign(alloc, outer, value, token, *sign),
+        _ => after_whole(alloc, outer, value, token),
     }
 }
 
-fn end_tail(alloc: Global, tail: Tail, value: Expr) -> Result<Expr, NoMemory> {
+fn end_tail(alloc: Global, tail: Tail, value: Expr) -> Result<Expr, NoMemory>
+    ensures { IfOk result (λ whole. whole ≡ spec.end_tail tail value) }
+{
     match tail {
         Tail::Assign(op, target) => Ok(Expr::Assign(op, target, boxed(alloc, value)?)),
         Tail::Else(test, yes) => {
@@ -203,28 +264,62 @@ fn end_tail(alloc: Global, tail: Tail, value: Expr) -> Result<Expr, NoMemory> {
 }
 
 /// What ends with the value ends.
-fn fold_tails(alloc: Global, outer: Outer, value: Expr) -> Result<(Outer, Expr), StepEnd> {
-    if !in_tail(&outer) {
-        return Ok((outer, value));
-    }
-    let (outer, frame) = pop(outer);
-    match frame {
-        Some(Frame::Tail(tail)) => {
-            let value = end_tail(alloc, tail, value)?;
-            fold_tails(alloc, outer, value)
+fn fold_tails(
+    alloc: Global,
+    frames: Stack<Open>,
+    value: Expr,
+) -> Result<(Stack<Open>, Expr), NoMemory>
+    ensures { IfOk result (λ over. spec.fold_tails frames value ≡ record { frames = over.0; value = over.1 }) }
+{
+    let mut frames = frames;
+    match frames.pop() {
+        None => Ok((frames, value)),
+        Some(open) => {
+            let Open { constructs, frame } = open;
+            match frame {
+                Frame::Tail(tail) => {
+                    let value = end_tail(alloc, tail, value)?;
+                    fold_tails(alloc, frames, value)
+                }
+                frame => Ok((frames.with(Open { constructs, frame })?, value)),
+            }
         }
-        _ => Err(StepEnd::Refused(because(None, None))),
     }
 }
 
 /// A token behind a value that is whole.
-pub fn after_whole(alloc: Global, outer: Outer, value: Expr, token: &Token) -> Result<State, StepEnd> {
-    let (outer, value) = fold(alloc, outer, 0, value)?;
-    let (outer, value) = fold_tails(alloc, outer, value)?;
+pub fn after_whole(alloc: Global, outer: Outer, value: Expr, token: &Token) -> Result<State, StepEnd>
+    ensures { Steps (spec.after_whole outer value token.now) result }
+{
+    let Outer {
+        items,
+        exported,
+        frames,
+    } = outer;
+    let (frames, value) = fold(alloc, 0, frames, value)?;
+    let (frames, value) = fold_tails(alloc, frames, value)?;
+    let outer = Outer {
+        items,
+        exported,
+        frames,
+    };
     let (outer, frame) = pop(outer);
     match frame {
         Some(Frame::Purpose(purpose)) => on_value(alloc, outer, purpose, value, token),
         _ => refuse(),
+    }
+}
+
+/// The call, or the `new`, whose arguments are whole.
+pub fn call(alloc: Global, outer: Outer, callee: Callee, arguments: Seq<Expr>) -> Result<State, StepEnd>
+    ensures { Steps (spec.call outer callee arguments) result }
+{
+    match callee {
+        Callee::Value(value, accesses) => {
+            let call = Expr::Call(boxed(alloc, value)?, arguments);
+            to(outer, At::Operand(call, plus(accesses, 1)))
+        }
+        Callee::New(name) => to(outer, At::Operand(Expr::New(name, arguments), 0)),
     }
 }
 
@@ -234,7 +329,9 @@ fn on_argument_end(
     callee: Callee,
     arguments: Seq<Expr>,
     token: &Token,
-) -> Result<State, StepEnd> {
+) -> Result<State, StepEnd>
+    ensures { Steps (spec.on_argument_end outer callee arguments token.now.kind) result }
+{
     match &token.kind {
         TokenKind::Punctuator(sign) => match sign {
             Punctuator::Comma => to(outer, At::NextArgument(callee, arguments)),
@@ -245,7 +342,9 @@ fn on_argument_end(
     }
 }
 
-fn on_element_end(outer: Outer, items: Seq<Expr>, token: &Token) -> Result<State, StepEnd> {
+fn on_element_end(outer: Outer, items: Seq<Expr>, token: &Token) -> Result<State, StepEnd>
+    ensures { Steps (spec.on_element_end outer items token.now.kind) result }
+{
     match &token.kind {
         TokenKind::Punctuator(sign) => match sign {
             Punctuator::Comma => to(outer, At::NextElement(items)),
@@ -256,7 +355,9 @@ fn on_element_end(outer: Outer, items: Seq<Expr>, token: &Token) -> Result<State
     }
 }
 
-fn on_pair_end(outer: Outer, members: Seq<Property>, token: &Token) -> Result<State, StepEnd> {
+fn on_pair_end(outer: Outer, members: Seq<Property>, token: &Token) -> Result<State, StepEnd>
+    ensures { Steps (spec.on_pair_end outer members token.now.kind) result }
+{
     match &token.kind {
         TokenKind::Punctuator(sign) => match sign {
             Punctuator::Comma => to(outer, At::Key(members)),
@@ -272,7 +373,9 @@ fn on_hole_end(
     outer: Outer,
     items: Seq<TemplateItem>,
     token: &Token,
-) -> Result<State, StepEnd> {
+) -> Result<State, StepEnd>
+    ensures { Steps (spec.on_hole_end outer items token.now.kind) result }
+{
     match &token.kind {
         TokenKind::Template(part, units) => match part {
             TemplatePart::Middle => {
@@ -289,22 +392,28 @@ fn on_hole_end(
     }
 }
 
-/// An expression as a statement is whole. A name that `:` follows is a label.
-fn on_statement_end(alloc: Global, outer: Outer, value: Expr, token: &Token) -> Result<State, StepEnd> {
-    let before = match &value {
+/// The spot of the token before: a name that begins a statement may be a label.
+fn label_before(value: &Expr) -> Option<Spot>
+    ensures { result ≡ spec.label_before (out-Expr value.now) }
+{
+    match value {
         Expr::Name(_) => Some(Spot::StatementBegin),
         _ => None,
-    };
-    let why = Refusal::Token(Asked {
-        before,
-        here: Some(Spot::OperandEnd),
-        ended: false,
-    });
+    }
+}
+
+/// An expression as a statement is whole. A name that `:` follows is a label.
+fn on_statement_end(alloc: Global, outer: Outer, value: Expr, token: &Token) -> Result<State, StepEnd>
+    ensures { Steps (spec.on_statement_end outer value token.now) result }
+{
+    let why = because(label_before(&value), Some(Spot::OperandEnd));
     end(alloc, outer, Stmt::Expr(value), token, why)
 }
 
 /// The value of a declaration is whole.
-fn on_initial_end(alloc: Global, outer: Outer, declared: Declared, token: &Token) -> Result<State, StepEnd> {
+fn on_initial_end(alloc: Global, outer: Outer, declared: Declared, token: &Token) -> Result<State, StepEnd>
+    ensures { Steps (spec.on_initial_end outer declared token.now) result }
+{
     if is_comma(token) {
         return to(outer, At::DeclaredName(declared));
     }
@@ -325,7 +434,9 @@ fn on_initial_end(alloc: Global, outer: Outer, declared: Declared, token: &Token
 }
 
 /// The value in the brackets of a statement is whole.
-fn on_head_end(outer: Outer, body: Body, token: &Token) -> Result<State, StepEnd> {
+fn on_head_end(outer: Outer, body: Body, token: &Token) -> Result<State, StepEnd>
+    ensures { Steps (spec.on_head_end outer body token.now) result }
+{
     if is_close_paren(token) {
         return wait_body(outer, body);
     }
@@ -333,14 +444,18 @@ fn on_head_end(outer: Outer, body: Body, token: &Token) -> Result<State, StepEnd
 }
 
 /// The value is whole where its last token stands behind it.
-fn on_part_end(outer: Outer, at: At, is_last: bool) -> Result<State, StepEnd> {
+fn on_part_end(outer: Outer, at: At, is_last: bool) -> Result<State, StepEnd>
+    ensures { Steps (spec.on_part_end outer at is_last) result }
+{
     if is_last {
         return to(outer, at);
     }
     refuse_at(Spot::OperandEnd)
 }
 
-fn on_then_end(outer: Outer, test: Expr, yes: Expr, token: &Token) -> Result<State, StepEnd> {
+fn on_then_end(outer: Outer, test: Expr, yes: Expr, token: &Token) -> Result<State, StepEnd>
+    ensures { Steps (spec.on_then_end outer test yes token.now) result }
+{
     if is_colon(token) {
         return wait_tail(outer, Tail::Else(test, yes));
     }
@@ -354,7 +469,9 @@ fn on_value(
     purpose: Purpose,
     value: Expr,
     token: &Token,
-) -> Result<State, StepEnd> {
+) -> Result<State, StepEnd>
+    ensures { Steps (spec.on_value outer purpose value token.now) result }
+{
     match purpose {
         Purpose::Then(test) => on_then_end(outer, test, value, token),
         Purpose::Group => {
