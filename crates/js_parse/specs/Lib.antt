@@ -13,4 +13,5 @@ pub mod Statements
 pub mod Values
 pub mod Expressions
 pub mod Machine
+pub mod Answer
 pub mod Steps

@@ -1,9 +1,16 @@
+ghost use Rattle.std.specs.Prelude.{◌≡◌, List, IfOk};
+ghost use Rattle.js_lex.specs.declared.token.Token.{Token};
+ghost use Rattle.js_lex.specs.Grammar.{AreTokens};
+ghost use Rattle.js_parse.specs.Answer as spec;
+ghost use Rattle.js_parse.specs.Answer.{IsAnswer};
+ghost use Rattle.js_parse.specs.Machine as machine;
+
 use crate::letters::letters;
 use crate::machine::{Asked, At, Outer, Refusal, State, StepEnd};
 use crate::stack::Stack;
 use crate::steps::step;
 use crate::tokens::units_of_letters;
-use js_lex::{Punctuator, ScriptFault, ScriptKind, Token, TokenKind, Tokens, lex};
+use js_lex::{ScriptFault, ScriptKind, Token, TokenKind, Tokens, lex};
 use js_tree::Tree;
 use js_words::{Spot, Word, word_of};
 use std::alloc::Global;
@@ -27,7 +34,9 @@ impl From<NoMemory> for ScriptEnd {
     }
 }
 
-fn left_out(alloc: Global, place: usize, word: Word) -> Result<ScriptFault, NoMemory> {
+fn left_out(alloc: Global, place: usize, word: Word) -> Result<ScriptFault, NoMemory>
+    ensures { IfOk result (λ fault. fault ≡ spec.left_out place word) }
+{
     Ok(ScriptFault {
         kind: ScriptKind::LeftOut,
         place,
@@ -35,7 +44,9 @@ fn left_out(alloc: Global, place: usize, word: Word) -> Result<ScriptFault, NoMe
     })
 }
 
-fn syntax(alloc: Global, place: usize) -> ScriptFault {
+fn syntax(alloc: Global, place: usize) -> ScriptFault
+    ensures { result ≡ spec.syntax_fault place }
+{
     ScriptFault {
         kind: ScriptKind::Syntax,
         place,
@@ -44,47 +55,69 @@ fn syntax(alloc: Global, place: usize) -> ScriptFault {
 }
 
 /// The word of a token, wherever it stands.
-fn word_anywhere(tokens: &Tokens, at: usize) -> Option<Word> {
+fn word_anywhere(tokens: &Tokens, at: usize) -> Option<Word>
+    ensures { result ≡ spec.word_anywhere tokens.now at }
+{
     match word_of(tokens, at, Spot::OperandEnd) {
-        Some(Word::Comma) => None,
-        word => word,
+        Some(word) => match word {
+            Word::Comma => None,
+            word => Some(word),
+        },
+        None => None,
     }
 }
 
-fn word_at(tokens: &Tokens, at: usize, spot: Option<Spot>) -> Option<Word> {
+fn word_at(tokens: &Tokens, at: usize, spot: Option<Spot>) -> Option<Word>
+    ensures { result ≡ spec.word_at tokens.now at spot }
+{
     match spot {
         Some(spot) => word_of(tokens, at, spot),
         None => None,
     }
 }
 
-fn word_before(tokens: &Tokens, at: usize, spot: Option<Spot>) -> Option<Word> {
+fn word_before(tokens: &Tokens, at: usize, spot: Option<Spot>) -> Option<Word>
+    ensures { result ≡ spec.word_before tokens.now at spot }
+{
     if at == 0 {
         return None;
     }
     word_at(tokens, at - 1, spot)
 }
 
-fn behind_end(ended: bool) -> Option<Spot> {
+fn behind_end(ended: bool) -> Option<Spot>
+    ensures { result ≡ spec.behind_end ended }
+{
     if ended { Some(Spot::StatementBegin) } else { None }
+}
+
+/// The first word, or else the second.
+fn or_else(first: Option<Word>, second: Option<Word>) -> Option<Word>
+    ensures { result ≡ spec.or_else first second }
+{
+    match first {
+        Some(word) => Some(word),
+        None => second,
+    }
 }
 
 /// The word of the token that is refused: the first one that is told by the token before it, by
 /// its own spot, by the spot behind an automatic end, or by no spot.
-fn word(tokens: &Tokens, at: usize, asked: Asked) -> Option<Word> {
-    if let Some(word) = word_before(tokens, at, asked.before) {
-        return Some(word);
-    }
-    if let Some(word) = word_at(tokens, at, asked.here) {
-        return Some(word);
-    }
-    if let Some(word) = word_at(tokens, at, behind_end(asked.ended)) {
-        return Some(word);
-    }
-    word_anywhere(tokens, at)
+fn word(tokens: &Tokens, at: usize, asked: Asked) -> Option<Word>
+    ensures { result ≡ spec.word tokens.now at asked }
+{
+    let later = word_at(tokens, at, behind_end(asked.ended));
+    let here = word_at(tokens, at, asked.here);
+    let last = or_else(later, word_anywhere(tokens, at));
+    or_else(
+        word_before(tokens, at, asked.before),
+        or_else(here, last),
+    )
 }
 
-fn place_before(tokens: &Tokens, at: usize) -> usize {
+fn place_before(tokens: &Tokens, at: usize) -> usize
+    ensures { result ≡ spec.place_before tokens.now at }
+{
     if at == 0 {
         return 0;
     }
@@ -100,10 +133,29 @@ fn token_fault(
     at: usize,
     place: usize,
     asked: Asked,
-) -> Result<ScriptFault, NoMemory> {
+) -> Result<ScriptFault, NoMemory>
+    ensures { IfOk result (λ fault. fault ≡ spec.told place (spec.word tokens.now at asked)) }
+{
     match word(tokens, at, asked) {
         Some(word) => left_out(alloc, place, word),
         None => Ok(syntax(alloc, place)),
+    }
+}
+
+fn refusal_fault(
+    alloc: Global,
+    tokens: &Tokens,
+    at: usize,
+    place: usize,
+    why: Refusal,
+) -> Result<ScriptFault, NoMemory>
+    ensures { IfOk result (λ fault. fault ≡ spec.refusal_fault tokens.now at place why) }
+{
+    match why {
+        Refusal::Token(asked) => token_fault(alloc, tokens, at, place, asked),
+        Refusal::Plain => Ok(syntax(alloc, place)),
+        Refusal::Nesting => left_out(alloc, place, Word::Nesting),
+        Refusal::NestingBefore => left_out(alloc, place_before(tokens, at), Word::Nesting),
     }
 }
 
@@ -114,19 +166,18 @@ fn fault_at(
     at: usize,
     token: &Token,
     why: Refusal,
-) -> Result<ScriptFault, NoMemory> {
-    if let TokenKind::End = &token.kind {
-        return Ok(syntax(alloc, token.place));
-    }
-    match why {
-        Refusal::Token(asked) => token_fault(alloc, tokens, at, token.place, asked),
-        Refusal::Plain => Ok(syntax(alloc, token.place)),
-        Refusal::Nesting => left_out(alloc, token.place, Word::Nesting),
-        Refusal::NestingBefore => left_out(alloc, place_before(tokens, at), Word::Nesting),
+) -> Result<ScriptFault, NoMemory>
+    ensures { IfOk result (λ fault. fault ≡ spec.fault_at tokens.now at token.now why) }
+{
+    match &token.kind {
+        TokenKind::End => Ok(syntax(alloc, token.place)),
+        _ => refusal_fault(alloc, tokens, at, token.place, why),
     }
 }
 
-fn copy_of(alloc: Global, fault: &ScriptFault) -> Result<ScriptFault, NoMemory> {
+fn copy_of(alloc: Global, fault: &ScriptFault) -> Result<ScriptFault, NoMemory>
+    ensures { IfOk result (λ copy. copy ≡ fault.now) }
+{
     Ok(ScriptFault {
         kind: fault.kind,
         place: fault.place,
@@ -134,7 +185,9 @@ fn copy_of(alloc: Global, fault: &ScriptFault) -> Result<ScriptFault, NoMemory> 
     })
 }
 
-fn start(alloc: Global) -> State {
+fn start(alloc: Global) -> State
+    ensures { result ≡ machine.start }
+{
     State {
         outer: Outer {
             items: Seq::new(alloc),
@@ -145,7 +198,9 @@ fn start(alloc: Global) -> State {
     }
 }
 
-fn read(alloc: Global, tokens: &Tokens) -> Result<Tree, ScriptEnd> {
+fn read(alloc: Global, tokens: &Tokens) -> Result<Tree, ScriptEnd>
+    ensures { IsAnswer (spec.answer tokens.now) result }
+{
     let mut state = start(alloc);
     for (at, token) in tokens.as_slice().iter().enumerate() {
         if let TokenKind::Bad(fault) = &token.kind {
@@ -165,7 +220,9 @@ fn read(alloc: Global, tokens: &Tokens) -> Result<Tree, ScriptEnd> {
 
 /// The one tree of a script, or its first fault. Places count UTF-16 units. `docs/SCRIPTS.md` has
 /// the grammar.
-pub fn parse(alloc: Global, units: &Units) -> Result<Tree, ScriptEnd> {
+pub fn parse(alloc: Global, units: &Units) -> Result<Tree, ScriptEnd>
+    ensures told { (tokens : List Token) → AreTokens units.now tokens → IsAnswer (spec.answer tokens) result }
+{
     let tokens = lex(alloc, units)?;
     read(alloc, &tokens)
 }
