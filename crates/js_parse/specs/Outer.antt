@@ -24,7 +24,7 @@ use Rattle.js_parse.specs.declared.machine.State.{State}
 use Rattle.js_parse.specs.declared.machine.Refusal.{Refusal}
 use Rattle.js_parse.specs.declared.machine.Refusal.TheVariants as refusal
 use Rattle.js_parse.specs.declared.outer.Position.{Position}
-use Rattle.js_parse.specs.declared.outer.Position.TheVariants as position
+use Rattle.js_parse.specs.declared.outer.Position.TheVariants as positions
 
 abbrev pub Step : Type 0
 Step = Result State Refusal
@@ -93,20 +93,20 @@ abbrev pub open_block : Outer → ℕ → Block → Step
 open_block o more b = to (push o more (frame.Block b [])) at.Statement
 
 abbrev pub operator_position : Operator → Position
-operator_position (operator.Update x) = position.Target
-operator_position _ = position.Operand
+operator_position (operator.Update x) = positions.Target
+operator_position _ = positions.Operand
 
 abbrev pub position_in : Option Frame → Position
 position_in (Some (frame.Operator x)) = operator_position x
-position_in _ = position.Whole
+position_in _ = positions.Whole
 
 abbrev pub position : Outer → Position
 position o = position_in (innermost o)
 
 abbrev pub is_whole_position : Position → Bool
-is_whole_position position.Whole = true
-is_whole_position position.Operand = false
-is_whole_position position.Target = false
+is_whole_position positions.Whole = true
+is_whole_position positions.Operand = false
+is_whole_position positions.Target = false
 
 abbrev pub is_whole : Outer → Bool
 is_whole o = is_whole_position (position o)

@@ -25,6 +25,7 @@ use Rattle.js_tree.specs.declared.tree.TemplateItem.{TemplateItem, roll-Template
 use Rattle.js_tree.specs.declared.tree.UpdateSide.TheVariants as side
 use Rattle.js_words.specs.declared.word.Spot.{Spot}
 use Rattle.js_words.specs.declared.word.Spot.TheVariants as spot
+use Rattle.js_parse.specs.declared.machine.At.{At}
 use Rattle.js_parse.specs.declared.machine.At.TheVariants as at
 use Rattle.js_parse.specs.declared.machine.Body.{Body}
 use Rattle.js_parse.specs.declared.machine.Body.TheVariants as body

@@ -7,7 +7,7 @@ use js_words::Spot;
 use wd_base::{NoMemory, Seq, Units};
 
 /// An operator that waits for its operand.
-#[derive(Debug, Drop)]
+#[derive(Drop)]
 pub enum Operator {
     /// with the left operand
     Binary(Expr, BinaryOp),
@@ -19,7 +19,7 @@ pub enum Operator {
 }
 
 /// What ends with the value that it waits for.
-#[derive(Debug, Drop)]
+#[derive(Drop)]
 pub enum Tail {
     Assign(AssignOp, Target),
     /// `test ? yes :`
@@ -29,7 +29,7 @@ pub enum Tail {
 }
 
 /// What arguments are for.
-#[derive(Debug, Drop)]
+#[derive(Drop)]
 pub enum Callee {
     /// a value, and how many calls and member accesses its chain has
     Value(Expr, usize),
@@ -38,7 +38,7 @@ pub enum Callee {
 }
 
 /// What a whole value is for.
-#[derive(Debug, Drop)]
+#[derive(Drop)]
 pub enum Purpose {
     /// `test ?`
     Then(Expr),
@@ -76,7 +76,7 @@ pub enum Purpose {
 }
 
 /// `let` or `const`, whether within the brackets of a `for`, and the declarations so far.
-#[derive(Debug, Drop)]
+#[derive(Drop)]
 pub struct Declared {
     pub kind: DeclareKind,
     pub in_for: bool,
@@ -84,7 +84,7 @@ pub struct Declared {
 }
 
 /// What waits for a statement as its body.
-#[derive(Debug, Drop)]
+#[derive(Drop)]
 pub enum Body {
     Then(Expr),
     Else(Expr, Stmt),
@@ -94,7 +94,7 @@ pub enum Body {
 }
 
 /// A function before its parameters.
-#[derive(Debug, Drop)]
+#[derive(Drop)]
 pub enum Head {
     Declaration(bool, Name),
     Expression(bool, Option<Name>),
@@ -103,7 +103,7 @@ pub enum Head {
 }
 
 /// What the statements between braces are.
-#[derive(Debug, Drop)]
+#[derive(Drop)]
 pub enum Block {
     Plain,
     Function(Head, Seq<Name>),
@@ -116,7 +116,7 @@ pub enum Block {
 }
 
 /// What was begun, and waits for its end.
-#[derive(Debug, Drop)]
+#[derive(Drop)]
 pub enum Frame {
     Operator(Operator),
     Tail(Tail),
@@ -129,14 +129,14 @@ pub enum Frame {
 }
 
 /// A frame, and how many constructs are open within it.
-#[derive(Debug, Drop)]
+#[derive(Drop)]
 pub struct Open {
     pub constructs: usize,
     pub frame: Frame,
 }
 
 /// What stands before brackets in which arrow parameters may stand.
-#[derive(Debug, Drop)]
+#[derive(Drop)]
 pub enum Cover {
     Plain,
     /// the name `async`
@@ -144,7 +144,7 @@ pub enum Cover {
 }
 
 /// A word that brackets follow.
-#[derive(Clone, Copy, Debug, PartialEq, Eq)]
+#[derive(Clone, Copy)]
 pub enum Opening {
     If,
     While,
@@ -152,7 +152,7 @@ pub enum Opening {
 }
 
 /// What was read of the innermost frame.
-#[derive(Debug, Drop)]
+#[derive(Drop)]
 pub enum At {
     /// whole statements
     Statement,
@@ -253,7 +253,7 @@ pub enum At {
 
 /// What stands round the place that is read: the items before, whether `export default` is among
 /// them, and what is open.
-#[derive(Debug, Drop)]
+#[derive(Drop)]
 pub struct Outer {
     pub items: Seq<Item>,
     pub exported: bool,
@@ -261,14 +261,14 @@ pub struct Outer {
 }
 
 /// What was read.
-#[derive(Debug, Drop)]
+#[derive(Drop)]
 pub struct State {
     pub outer: Outer,
     pub at: At,
 }
 
 /// What to ask for the word of a token that is refused.
-#[derive(Clone, Copy, Debug, PartialEq, Eq)]
+#[derive(Clone, Copy)]
 pub struct Asked {
     /// the spot of the token before, where that one can have the word
     pub before: Option<Spot>,
@@ -279,7 +279,7 @@ pub struct Asked {
 }
 
 /// Why a token is refused.
-#[derive(Clone, Copy, Debug, PartialEq, Eq)]
+#[derive(Clone, Copy)]
 pub enum Refusal {
     /// no continuation allows it
     Token(Asked),
@@ -292,7 +292,7 @@ pub enum Refusal {
 }
 
 /// Why a step was not made.
-#[derive(Clone, Copy, Debug, PartialEq, Eq)]
+#[derive(Clone, Copy)]
 pub enum StepEnd {
     Refused(Refusal),
     NoMemory,

@@ -13,7 +13,7 @@ use std::alloc::Global;
 use wd_base::{NoMemory, Seq};
 
 /// Where an operand stands.
-#[derive(Clone, Copy, Debug, PartialEq, Eq)]
+#[derive(Clone, Copy)]
 pub enum Position {
     /// an assignment or an arrow may stand there
     Whole,

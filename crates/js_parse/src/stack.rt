@@ -6,7 +6,7 @@ use std::marker::Model;
 use wd_base::NoMemory;
 
 /// A `Vec` that contracts see as the list of its items, the last one first.
-#[derive(Debug, Drop)]
+#[derive(Drop)]
 pub struct Stack<T> {
     items: Vec<T>,
 }

@@ -1,4 +1,4 @@
-ghost use Rattle.std.specs.Prelude.{◌≡◌, IfOk, None};
+ghost use Rattle.std.specs.Prelude.{◌≡◌, true, false, IfOk, None};
 ghost use Rattle.js_parse.specs.Outer as machine;
 ghost use Rattle.js_parse.specs.Statements as spec;
 ghost use Rattle.js_parse.specs.Outer.{Step};

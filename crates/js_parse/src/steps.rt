@@ -16,7 +16,7 @@ use std::alloc::{Global};
 pub const MOST_OPEN: usize = 128;
 
 fn step_in(alloc: Global, outer: Outer, at: At, token: &Token) -> Result<State, StepEnd>
-    ensures { Steps (spec.step_at outer at token.now) result }
+    ensures { Steps (spec.step_in outer at token.now) result }
 {
     match at {
         At::Statement => on_statement(alloc, outer, token),
@@ -24,29 +24,31 @@ fn step_in(alloc: Global, outer: Outer, at: At, token: &Token) -> Result<State, 
         At::Operand(value, accesses) => after_operand(alloc, outer, value, accesses, token),
         At::Updated(value) => after_value(alloc, outer, value, token),
         At::Whole(value) => after_whole(alloc, outer, value, token),
-        At::Async(name) => after_async(alloc, outer, name, token),
-        At::CoverOpen(cover, names) => on_cover_open(alloc, outer, cover, names, token),
-        At::CoverName(cover, names, last) => {
-            on_cover_name(alloc, outer, cover, names, last, token)
-        }
-        At::Covered(cover, names, is_alone) => {
-            on_covered(alloc, outer, cover, names, is_alone, token)
-        }
-        At::Arrow(is_async, names) => on_arrow(outer, is_async, names, token),
-        At::ArrowBody(is_async, names) => {
-            on_arrow_body(alloc, outer, is_async, names, MOST_OPEN, token)
-        }
-        At::NewName => on_new(alloc, outer, token),
-        At::NewOpen(name) => on_new_open(alloc, outer, name, token),
         At::MemberName(object, accesses) => on_member(alloc, outer, object, accesses, token),
         At::NextArgument(callee, values) => on_argument(alloc, outer, callee, values, token),
         At::NextElement(items) => on_element(alloc, outer, items, token),
+        at => step_in_arrow(alloc, outer, at, token),
+    }
+}
+
+fn step_in_arrow(alloc: Global, outer: Outer, at: At, token: &Token) -> Result<State, StepEnd>
+    ensures { Steps (spec.step_in_arrow outer at token.now) result }
+{
+    match at {
+        At::Async(name) => after_async(alloc, outer, name, token),
+        At::CoverOpen(cover, names) => on_cover_open(alloc, outer, cover, names, token),
+        At::CoverName(cover, names, last) => on_cover_name(alloc, outer, cover, names, last, token),
+        At::Covered(cover, names, is_alone) => on_covered(alloc, outer, cover, names, is_alone, token),
+        At::Arrow(is_async, names) => on_arrow(outer, is_async, names, token),
+        At::ArrowBody(is_async, names) => on_arrow_body(alloc, outer, is_async, names, MOST_OPEN, token),
+        At::NewName => on_new(alloc, outer, token),
+        At::NewOpen(name) => on_new_open(alloc, outer, name, token),
         at => step_in_object(alloc, outer, at, token),
     }
 }
 
 fn step_in_object(alloc: Global, outer: Outer, at: At, token: &Token) -> Result<State, StepEnd>
-    ensures { Steps (spec.step_at outer at token.now) result }
+    ensures { Steps (spec.step_in_object outer at token.now) result }
 {
     match at {
         At::Key(members) => on_key(alloc, outer, members, token),
@@ -55,35 +57,56 @@ fn step_in_object(alloc: Global, outer: Outer, at: At, token: &Token) -> Result<
         At::AsyncKey(members, name) => on_async_key(alloc, outer, members, name, token),
         At::AsyncMethod(members, key) => on_async_method(alloc, outer, members, key, token),
         At::PropertyEnd(members) => on_property_end(outer, members, token),
-        At::FunctionName(is_declaration, is_async) => {
-            on_function_name(alloc, outer, is_declaration, is_async, token)
-        }
+        at => step_in_function(alloc, outer, at, token),
+    }
+}
+
+fn step_in_function(alloc: Global, outer: Outer, at: At, token: &Token) -> Result<State, StepEnd>
+    ensures { Steps (spec.step_in_function outer at token.now) result }
+{
+    match at {
+        At::FunctionName(is_declaration, is_async) => on_function_name(alloc, outer, is_declaration, is_async, token),
         At::ParametersOpen(head) => on_parameters_open(alloc, outer, head, token),
         At::Parameters(head, names) => on_parameters(alloc, outer, head, names, token),
-        At::ParameterRead(head, names, name) => {
-            on_parameter_read(outer, head, names, name, token)
-        }
+        At::ParameterRead(head, names, name) => on_parameter_read(outer, head, names, name, token),
         At::BodyOpen(head, names) => on_body_open(alloc, outer, head, names, token),
+        at => step_in_head(alloc, outer, at, token),
+    }
+}
+
+fn step_in_head(alloc: Global, outer: Outer, at: At, token: &Token) -> Result<State, StepEnd>
+    ensures { Steps (spec.step_in_head outer at token.now) result }
+{
+    match at {
+        At::DeclaredName(declared) => on_declared_name(alloc, outer, declared, token),
+        At::NameDeclared(declared, name) => on_name_declared(alloc, outer, declared, name, token),
+        At::Opening(opening) => on_opening(outer, opening, token),
+        At::ForHead => on_for_head(alloc, outer, token),
+        At::ForTest(start) => on_for_test(alloc, outer, start, token),
+        At::ForUpdate(start, test) => on_for_update(alloc, outer, start, test, token),
         at => step_in_statement(alloc, outer, at, token),
     }
 }
 
 fn step_in_statement(alloc: Global, outer: Outer, at: At, token: &Token) -> Result<State, StepEnd>
-    ensures { Steps (spec.step_at outer at token.now) result }
+    ensures { Steps (spec.step_in_statement outer at token.now) result }
 {
     match at {
-        At::DeclaredName(declared) => on_declared_name(alloc, outer, declared, token),
-        At::NameDeclared(declared, name) => {
-            on_name_declared(alloc, outer, declared, name, token)
-        }
-        At::Opening(opening) => on_opening(outer, opening, token),
-        At::ForHead => on_for_head(alloc, outer, token),
-        At::ForTest(start) => on_for_test(alloc, outer, start, token),
-        At::ForUpdate(start, test) => on_for_update(alloc, outer, start, test, token),
         At::AfterThen(test, yes) => after_then(alloc, outer, test, yes, token),
         At::Jump(stmt) => on_jump(alloc, outer, stmt, token),
         At::Return(place) => on_return(alloc, outer, place, token),
         At::Throw => on_throw(alloc, outer, token),
+        At::ExportDefault => on_export_word(outer, token),
+        At::ExportObject => on_export_object(alloc, outer, token),
+        At::AfterExport => after_export(alloc, outer, token),
+        at => step_in_try(alloc, outer, at, token),
+    }
+}
+
+fn step_in_try(alloc: Global, outer: Outer, at: At, token: &Token) -> Result<State, StepEnd>
+    ensures { Steps (spec.step_in_try outer at token.now) result }
+{
+    match at {
         At::TryOpen => on_try(alloc, outer, token),
         At::AfterTry(tried) => after_try(outer, tried, token),
         At::CatchOpen(tried) => on_catch(alloc, outer, tried, token),
@@ -92,9 +115,6 @@ fn step_in_statement(alloc: Global, outer: Outer, at: At, token: &Token) -> Resu
         At::CatchBody(tried, name) => on_catch_body(alloc, outer, tried, name, token),
         At::AfterCatch(tried, catch) => after_catch(alloc, outer, tried, catch, token),
         At::FinallyOpen(tried, catch) => on_finally(alloc, outer, tried, catch, token),
-        At::ExportDefault => on_export_word(outer, token),
-        At::ExportObject => on_export_object(alloc, outer, token),
-        At::AfterExport => after_export(alloc, outer, token),
         _ => refuse(),
     }
 }

@@ -53,7 +53,7 @@ fn strength(op: BinaryOp) -> u8
 }
 
 /// Operators that are not mixed (ECMA-262, section 13.13).
-#[derive(Clone, Copy, Debug, PartialEq, Eq)]
+#[derive(Clone, Copy)]
 enum Logic {
     Coalescing,
     AndOr,
@@ -177,7 +177,7 @@ fn joins(
     value: Expr,
     token: &Token,
 ) -> Result<State, StepEnd>
-    ensures { Steps (spec.joins outer op inside token.now (record { frames = frames; value = value })) result }
+    ensures { Steps (spec.joins outer op inside token.now (record { frames = outer.frames; value = value })) result }
 {
     if are_mixed(logic_of(op), outermost(&value)) || are_mixed(logic_of(op), waiting(&outer)) {
         return after_whole(alloc, outer, value, token);
