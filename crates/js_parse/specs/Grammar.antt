@@ -180,10 +180,11 @@ call x xs = accessed x (parenthesized (listed (values xs)))
 
 -- sections 13.6 to 13.13: one operator more in the chain of the left operand; then the right one
 abbrev pub joined : BinaryOp → Written → Written → Written
-joined o x y = record
-    { forms = x.forms ++ deeper (x.operators + 1) (just (binary_sign o) ∷ y.forms)
-    ; operators = x.operators + 1 + y.operators
-    ; accesses = 0 }
+joined o x y = record {
+  forms = x.forms ++ deeper (x.operators + 1) (just (binary_sign o) ∷ y.forms);
+  operators = x.operators + 1 + y.operators;
+  accesses = 0;
+}
 
 -- section 13.2.8, TemplateLiteral
 abbrev pub template_mark : TemplatePart → List ℕ → Form

@@ -117,11 +117,12 @@ unmixed NoLogic x y = true
 
 -- left associative
 abbrev pub joining : BinaryOp → Shape → Shape → Shape
-joining o x y = record
-    { fits = (at_least (strength o) x && above (strength o) y) && unmixed (logic o) x y
-    ; level = strength o
-    ; first = x.first
-    ; logic = logic o }
+joining o x y = record {
+  fits = (at_least (strength o) x && above (strength o) y) && unmixed (logic o) x y;
+  level = strength o;
+  first = x.first;
+  logic = logic o;
+}
 
 abbrev pub updating : UpdateSide → Shape → Shape
 updating side.Before x = shaped x.fits prefix_level OtherFirst
@@ -263,10 +264,11 @@ loop b s = record { fits = b && body_fits s; is_body = true; takes_else = s.take
 -- section 14.6: an `else` belongs to the nearest `if`
 abbrev pub branching : Bool → StmtShape → Option StmtShape → StmtShape
 branching test a None = record { fits = test && body_fits a; is_body = true; takes_else = true }
-branching test a (Some b) = record
-    { fits = test && ((body_fits a && not a.takes_else) && body_fits b)
-    ; is_body = true
-    ; takes_else = b.takes_else }
+branching test a (Some b) = record {
+  fits = test && ((body_fits a && not a.takes_else) && body_fits b);
+  is_body = true;
+  takes_else = b.takes_else;
+}
 
 abbrev pub catch_fits : Option Bool → Bool
 catch_fits None = true

@@ -3,14 +3,16 @@ ghost use Rattle.js_parse.specs.Begin as spec;
 ghost use Rattle.js_parse.specs.Steps.{Steps};
 ghost use Rattle.js_parse.specs.Tokens as tokens;
 
-use crate::machine::{Operator, Purpose, Cover, At, Outer, State, StepEnd};
-use crate::outer::{refuse_at, to, plus, constructs, wait, wait_operand, position_of, is_whole, Position};
+use crate::machine::{At, Cover, Operator, Outer, Purpose, State, StepEnd};
+use crate::outer::{
+    Position, constructs, is_whole, plus, position_of, refuse_at, to, wait, wait_operand,
+};
 use crate::tokens::{is_async, name_at};
 use js_lex::{Punctuator, Reserved, TemplatePart, Token, TokenKind};
 use js_tree::{Expr, UnaryOp, UpdateOp};
-use js_words::{Spot};
-use std::alloc::{Global};
-use wd_base::{Seq, Units, TryClone};
+use js_words::Spot;
+use std::alloc::Global;
+use wd_base::{Seq, TryClone, Units};
 
 /// An operand without calls and member accesses was read.
 pub fn operand(outer: Outer, value: Expr) -> Result<State, StepEnd>
@@ -30,7 +32,12 @@ fn begin_name(alloc: Global, outer: Outer, place: usize, units: &Units) -> Resul
     }
 }
 
-fn begin_template(alloc: Global, outer: Outer, part: TemplatePart, units: &Units) -> Result<State, StepEnd>
+fn begin_template(
+    alloc: Global,
+    outer: Outer,
+    part: TemplatePart,
+    units: &Units,
+) -> Result<State, StepEnd>
     ensures { Steps (spec.begin_template outer part units.now) result }
 {
     let units = units.try_clone(alloc)?;
@@ -113,4 +120,3 @@ pub fn begin(alloc: Global, outer: Outer, token: &Token) -> Result<State, StepEn
         _ => refuse_at(Spot::ExpressionBegin),
     }
 }
-

@@ -2,15 +2,23 @@ ghost use Rattle.std.specs.Prelude.{◌≡◌, IfOk};
 ghost use Rattle.js_parse.specs.Expressions as spec;
 ghost use Rattle.js_parse.specs.Steps.{Steps};
 
-use crate::machine::{Tail, Callee, Purpose, Block, Frame, Cover, At, Outer, State, Refusal, StepEnd};
-use crate::outer::{refused, refuse, refuse_at, to, with, boxed, plus, constructs, push, pop, wait, wait_tail, open_block, position_of, is_whole, in_body, begins_statement, Position};
-use crate::tokens::{is_open_paren, is_close_paren, is_open_brace, is_close_bracket, is_comma, is_arrow, is_async, name_at, any_name};
 use crate::begins::{begin, operand};
-use crate::values::{call, after_value, after_whole};
+use crate::machine::{
+    At, Block, Callee, Cover, Frame, Outer, Purpose, Refusal, State, StepEnd, Tail,
+};
+use crate::outer::{
+    Position, begins_statement, boxed, constructs, in_body, is_whole, open_block, plus, pop,
+    position_of, push, refuse, refuse_at, refused, to, wait, wait_tail, with,
+};
+use crate::tokens::{
+    any_name, is_arrow, is_async, is_close_bracket, is_close_paren, is_comma, is_open_brace,
+    is_open_paren, name_at,
+};
+use crate::values::{after_value, after_whole, call};
 use js_lex::{Punctuator, Reserved, Token, TokenKind};
 use js_tree::{AssignOp, Expr, Name, UpdateOp, UpdateSide};
-use js_words::{Spot};
-use std::alloc::{Global};
+use js_words::Spot;
+use std::alloc::Global;
 use wd_base::{NoMemory, Seq};
 
 fn assign_op(sign: Punctuator) -> Option<AssignOp>
@@ -25,7 +33,13 @@ fn assign_op(sign: Punctuator) -> Option<AssignOp>
 }
 
 /// `=`, `+=` or `-=` behind an operand.
-fn assign(alloc: Global, outer: Outer, op: AssignOp, value: Expr, token: &Token) -> Result<State, StepEnd>
+fn assign(
+    alloc: Global,
+    outer: Outer,
+    op: AssignOp,
+    value: Expr,
+    token: &Token,
+) -> Result<State, StepEnd>
     ensures { Steps (spec.on_assign outer op value token.now) result }
 {
     if !is_whole(&outer) {
@@ -38,7 +52,13 @@ fn assign(alloc: Global, outer: Outer, op: AssignOp, value: Expr, token: &Token)
 }
 
 /// `++` or `--` behind an operand.
-fn update(alloc: Global, outer: Outer, op: UpdateOp, value: Expr, token: &Token) -> Result<State, StepEnd>
+fn update(
+    alloc: Global,
+    outer: Outer,
+    op: UpdateOp,
+    value: Expr,
+    token: &Token,
+) -> Result<State, StepEnd>
     ensures { Steps (spec.on_update outer op value token.now) result }
 {
     if token.after_line_end {
@@ -321,7 +341,12 @@ pub fn on_covered(
 }
 
 /// Behind the parameters of an arrow.
-pub fn on_arrow(outer: Outer, is_async: bool, parameters: Seq<Name>, token: &Token) -> Result<State, StepEnd>
+pub fn on_arrow(
+    outer: Outer,
+    is_async: bool,
+    parameters: Seq<Name>,
+    token: &Token,
+) -> Result<State, StepEnd>
     ensures { Steps (spec.on_arrow outer is_async parameters token.now) result }
 {
     if is_arrow(token) && !token.after_line_end {
@@ -424,7 +449,12 @@ pub fn on_argument(
 }
 
 /// Behind `[` or a comma, where an item or `]` stands.
-pub fn on_element(alloc: Global, outer: Outer, items: Seq<Expr>, token: &Token) -> Result<State, StepEnd>
+pub fn on_element(
+    alloc: Global,
+    outer: Outer,
+    items: Seq<Expr>,
+    token: &Token,
+) -> Result<State, StepEnd>
     ensures { Steps (spec.on_element outer items token.now) result }
 {
     if is_close_bracket(token) {

@@ -1,6 +1,6 @@
 use crate::stack::Stack;
 use js_tree::{
-    AssignOp, BinaryOp, Catch, DeclareKind, Declaration, Expr, ForBegin, Item, Key, Name, Property,
+    AssignOp, BinaryOp, Catch, Declaration, DeclareKind, Expr, ForBegin, Item, Key, Name, Property,
     Stmt, Target, TemplateItem, UnaryOp, UpdateOp,
 };
 use js_words::Spot;

@@ -3,13 +3,16 @@ ghost use Rattle.js_parse.specs.Outer as machine;
 ghost use Rattle.js_parse.specs.Objects as spec;
 ghost use Rattle.js_parse.specs.Steps.{Steps};
 
-use crate::machine::{Purpose, Head, Block, Frame, At, Outer, State, StepEnd};
-use crate::outer::{because, refused, refuse, refuse_at, to, with, pop, wait, open_block};
-use crate::tokens::{is_open_paren, is_open_brace, is_close_brace, is_open_bracket, is_comma, is_async, name_at, any_name};
+use crate::machine::{At, Block, Frame, Head, Outer, Purpose, State, StepEnd};
+use crate::outer::{because, open_block, pop, refuse, refuse_at, refused, to, wait, with};
+use crate::tokens::{
+    any_name, is_async, is_close_brace, is_comma, is_open_brace, is_open_bracket, is_open_paren,
+    name_at,
+};
 use js_lex::{Punctuator, Token, TokenKind};
 use js_tree::{Expr, Item, Key, Name, Property};
-use js_words::{Spot};
-use std::alloc::{Global};
+use js_words::Spot;
+use std::alloc::Global;
 use wd_base::{NoMemory, Seq, TryClone};
 
 /// The object is what `export default` gives.
@@ -55,7 +58,12 @@ pub fn close_object(outer: Outer, members: Seq<Property>) -> Result<State, StepE
 }
 
 /// Behind `{` or a comma, where a key or `}` stands.
-pub fn on_key(alloc: Global, outer: Outer, members: Seq<Property>, token: &Token) -> Result<State, StepEnd>
+pub fn on_key(
+    alloc: Global,
+    outer: Outer,
+    members: Seq<Property>,
+    token: &Token,
+) -> Result<State, StepEnd>
     ensures { Steps (spec.on_key outer members token.now.place token.now.kind) result }
 {
     match &token.kind {
@@ -187,7 +195,11 @@ pub fn on_async_method(
 }
 
 /// Behind a method.
-pub fn on_property_end(outer: Outer, members: Seq<Property>, token: &Token) -> Result<State, StepEnd>
+pub fn on_property_end(
+    outer: Outer,
+    members: Seq<Property>,
+    token: &Token,
+) -> Result<State, StepEnd>
     ensures { Steps (spec.on_property_end outer members token.now.kind) result }
 {
     if is_comma(token) {
@@ -234,7 +246,12 @@ pub fn on_function_name(
 }
 
 /// Before the parameters of a function.
-pub fn on_parameters_open(alloc: Global, outer: Outer, head: Head, token: &Token) -> Result<State, StepEnd>
+pub fn on_parameters_open(
+    alloc: Global,
+    outer: Outer,
+    head: Head,
+    token: &Token,
+) -> Result<State, StepEnd>
     ensures { Steps (spec.on_parameters_open outer head token.now.kind) result }
 {
     if is_open_paren(token) {

@@ -156,7 +156,10 @@ pub fn wait(outer: Outer, more: usize, purpose: Purpose) -> Result<State, StepEn
 pub fn wait_operand(outer: Outer, inside: usize, operator: Operator) -> Result<State, StepEnd>
     ensures { Steps (spec.wait_operand outer inside operator) result }
 {
-    to(push_at(outer, inside, Frame::Operator(operator))?, At::Begin)
+    to(
+        push_at(outer, inside, Frame::Operator(operator))?,
+        At::Begin,
+    )
 }
 
 /// A value has to come, and this ends with it.
@@ -246,7 +249,10 @@ fn add(
     ensures { Steps (spec.add outer constructs block stmts stmt) result }
 {
     let stmts = with(stmts, stmt)?;
-    to(push_at(outer, constructs, Frame::Block(block, stmts))?, At::Statement)
+    to(
+        push_at(outer, constructs, Frame::Block(block, stmts))?,
+        At::Statement,
+    )
 }
 
 /// With one statement more at the top level.

@@ -88,7 +88,11 @@ fn word_before(tokens: &Tokens, at: usize, spot: Option<Spot>) -> Option<Word>
 fn behind_end(ended: bool) -> Option<Spot>
     ensures { result ≡ spec.behind_end ended }
 {
-    if ended { Some(Spot::StatementBegin) } else { None }
+    if ended {
+        Some(Spot::StatementBegin)
+    } else {
+        None
+    }
 }
 
 /// The first word, or else the second.
@@ -109,10 +113,7 @@ fn word(tokens: &Tokens, at: usize, asked: Asked) -> Option<Word>
     let later = word_at(tokens, at, behind_end(asked.ended));
     let here = word_at(tokens, at, asked.here);
     let last = or_else(later, word_anywhere(tokens, at));
-    or_else(
-        word_before(tokens, at, asked.before),
-        or_else(here, last),
-    )
+    or_else(word_before(tokens, at, asked.before), or_else(here, last))
 }
 
 fn place_before(tokens: &Tokens, at: usize) -> usize

@@ -4,14 +4,24 @@ ghost use Rattle.js_parse.specs.Statements as spec;
 ghost use Rattle.js_parse.specs.Outer.{Step};
 ghost use Rattle.js_parse.specs.Steps.{Steps};
 
-use crate::machine::{Purpose, Declared, Body, Head, Block, Frame, Opening, At, Outer, State, Asked, Refusal, StepEnd};
-use crate::outer::{because, refused, refuse, refuse_at, to, with, boxed, push, pop, wait, wait_body, open_block, in_body, complete, settle};
-use crate::tokens::{is_open_paren, is_close_paren, is_open_brace, is_semicolon, is_comma, is_equal, is_else, is_finally, is_default, may_end, is_of, name_at};
-use crate::begins::{begin};
+use crate::begins::begin;
+use crate::machine::{
+    Asked, At, Block, Body, Declared, Frame, Head, Opening, Outer, Purpose, Refusal, State, StepEnd,
+};
+use crate::outer::{
+    because, boxed, complete, in_body, open_block, pop, push, refuse, refuse_at, refused, settle,
+    to, wait, wait_body, with,
+};
+use crate::tokens::{
+    is_close_paren, is_comma, is_default, is_else, is_equal, is_finally, is_of, is_open_brace,
+    is_open_paren, is_semicolon, may_end, name_at,
+};
 use js_lex::{Punctuator, Reserved, Token, TokenKind};
-use js_tree::{ArrowBody, Catch, DeclareKind, Declaration, Expr, ForBegin, Function, Name, Property, Stmt};
-use js_words::{Spot};
-use std::alloc::{Global};
+use js_tree::{
+    ArrowBody, Catch, Declaration, DeclareKind, Expr, ForBegin, Function, Name, Property, Stmt,
+};
+use js_words::Spot;
+use std::alloc::Global;
 use wd_base::{NoMemory, Seq};
 
 fn not_in_body(outer: Outer, at: At) -> Result<State, StepEnd>
@@ -66,7 +76,12 @@ fn expression_statement(alloc: Global, outer: Outer, token: &Token) -> Result<St
     begin(alloc, outer, token)
 }
 
-fn begin_by_word(alloc: Global, outer: Outer, word: Reserved, token: &Token) -> Result<State, StepEnd>
+fn begin_by_word(
+    alloc: Global,
+    outer: Outer,
+    word: Reserved,
+    token: &Token,
+) -> Result<State, StepEnd>
     ensures { Steps (spec.begin_by_word outer token.now word) result }
 {
     match word {
@@ -243,7 +258,13 @@ pub fn resume(alloc: Global, outer: Outer, stmt: Stmt, token: &Token) -> Result<
 }
 
 /// The statement is whole but for its end. A token that is no end is refused for this reason.
-pub fn end(alloc: Global, outer: Outer, stmt: Stmt, token: &Token, why: Refusal) -> Result<State, StepEnd>
+pub fn end(
+    alloc: Global,
+    outer: Outer,
+    stmt: Stmt,
+    token: &Token,
+    why: Refusal,
+) -> Result<State, StepEnd>
     ensures { Steps (spec.end outer stmt token.now why) result }
 {
     if is_semicolon(token) {
@@ -256,13 +277,24 @@ pub fn end(alloc: Global, outer: Outer, stmt: Stmt, token: &Token, why: Refusal)
 }
 
 /// Behind the first branch of an `if`.
-pub fn after_then(alloc: Global, outer: Outer, test: Expr, yes: Stmt, token: &Token) -> Result<State, StepEnd>
+pub fn after_then(
+    alloc: Global,
+    outer: Outer,
+    test: Expr,
+    yes: Stmt,
+    token: &Token,
+) -> Result<State, StepEnd>
     ensures { Steps (spec.after_then outer test yes token.now) result }
 {
     if is_else(token) {
         return wait_body(outer, Body::Else(test, yes));
     }
-    resume(alloc, outer, Stmt::If(test, boxed(alloc, yes)?, None), token)
+    resume(
+        alloc,
+        outer,
+        Stmt::If(test, boxed(alloc, yes)?, None),
+        token,
+    )
 }
 
 /// Behind `if`, `while` or `for`.
@@ -305,7 +337,12 @@ pub fn on_for_head(alloc: Global, outer: Outer, token: &Token) -> Result<State, 
 }
 
 /// Behind `for (begin;`.
-pub fn on_for_test(alloc: Global, outer: Outer, start: ForBegin, token: &Token) -> Result<State, StepEnd>
+pub fn on_for_test(
+    alloc: Global,
+    outer: Outer,
+    start: ForBegin,
+    token: &Token,
+) -> Result<State, StepEnd>
     ensures { Steps (spec.on_for_test outer start token.now) result }
 {
     if is_semicolon(token) {
@@ -364,7 +401,12 @@ pub fn on_jump(alloc: Global, outer: Outer, stmt: Stmt, token: &Token) -> Result
 }
 
 /// A name has to be declared.
-pub fn on_declared_name(alloc: Global, outer: Outer, declared: Declared, token: &Token) -> Result<State, StepEnd>
+pub fn on_declared_name(
+    alloc: Global,
+    outer: Outer,
+    declared: Declared,
+    token: &Token,
+) -> Result<State, StepEnd>
     ensures { Steps (spec.on_declared_name outer declared token.now.place token.now.kind) result }
 {
     match &token.kind {
@@ -376,7 +418,11 @@ pub fn on_declared_name(alloc: Global, outer: Outer, declared: Declared, token: 
     }
 }
 
-pub fn with_declaration(declared: Declared, name: Name, value: Option<Expr>) -> Result<Declared, NoMemory>
+pub fn with_declaration(
+    declared: Declared,
+    name: Name,
+    value: Option<Expr>,
+) -> Result<Declared, NoMemory>
     ensures { IfOk result (λ longer. longer ≡ spec.with_declaration declared name value) }
 {
     let Declared {
@@ -393,7 +439,12 @@ pub fn with_declaration(declared: Declared, name: Name, value: Option<Expr>) -> 
 }
 
 /// A `let` without a value is declared.
-fn on_bare_name(alloc: Global, outer: Outer, declared: Declared, token: &Token) -> Result<State, StepEnd>
+fn on_bare_name(
+    alloc: Global,
+    outer: Outer,
+    declared: Declared,
+    token: &Token,
+) -> Result<State, StepEnd>
     ensures { Steps (spec.on_bare_name outer declared token.now) result }
 {
     if is_comma(token) {
@@ -466,7 +517,12 @@ pub fn after_try(outer: Outer, tried: Seq<Stmt>, token: &Token) -> Result<State,
 }
 
 /// Behind `catch`.
-pub fn on_catch(alloc: Global, outer: Outer, tried: Seq<Stmt>, token: &Token) -> Result<State, StepEnd>
+pub fn on_catch(
+    alloc: Global,
+    outer: Outer,
+    tried: Seq<Stmt>,
+    token: &Token,
+) -> Result<State, StepEnd>
     ensures { Steps (spec.on_catch outer tried token.now.kind) result }
 {
     match &token.kind {
@@ -479,7 +535,12 @@ pub fn on_catch(alloc: Global, outer: Outer, tried: Seq<Stmt>, token: &Token) ->
     }
 }
 
-pub fn on_catch_name(alloc: Global, outer: Outer, tried: Seq<Stmt>, token: &Token) -> Result<State, StepEnd>
+pub fn on_catch_name(
+    alloc: Global,
+    outer: Outer,
+    tried: Seq<Stmt>,
+    token: &Token,
+) -> Result<State, StepEnd>
     ensures { Steps (spec.on_catch_name outer tried token.now.place token.now.kind) result }
 {
     match &token.kind {
@@ -491,7 +552,12 @@ pub fn on_catch_name(alloc: Global, outer: Outer, tried: Seq<Stmt>, token: &Toke
     }
 }
 
-pub fn on_catch_close(outer: Outer, tried: Seq<Stmt>, name: Name, token: &Token) -> Result<State, StepEnd>
+pub fn on_catch_close(
+    outer: Outer,
+    tried: Seq<Stmt>,
+    name: Name,
+    token: &Token,
+) -> Result<State, StepEnd>
     ensures { Steps (spec.on_catch_close outer tried name token.now.kind) result }
 {
     if is_close_paren(token) {
@@ -516,7 +582,13 @@ pub fn on_catch_body(
 }
 
 /// Behind `try {} catch {}`.
-pub fn after_catch(alloc: Global, outer: Outer, tried: Seq<Stmt>, catch: Catch, token: &Token) -> Result<State, StepEnd>
+pub fn after_catch(
+    alloc: Global,
+    outer: Outer,
+    tried: Seq<Stmt>,
+    catch: Catch,
+    token: &Token,
+) -> Result<State, StepEnd>
     ensures { Steps (spec.after_catch outer tried catch token.now) result }
 {
     if is_finally(token) {

@@ -2,15 +2,27 @@ ghost use Rattle.std.specs.Prelude.{◌≡◌};
 ghost use Rattle.js_parse.specs.Machine as spec;
 ghost use Rattle.js_parse.specs.Steps.{Steps};
 
-use crate::machine::{Callee, At, Outer, State, Refusal, StepEnd};
-use crate::outer::{refused, refuse, plus, constructs};
-use crate::begins::{begin};
+use crate::begins::begin;
+use crate::expressions::{
+    after_async, after_operand, on_argument, on_arrow, on_arrow_body, on_cover_name, on_cover_open,
+    on_covered, on_element, on_member, on_new, on_new_open,
+};
+use crate::machine::{At, Callee, Outer, Refusal, State, StepEnd};
+use crate::objects::{
+    head_constructs, on_async_key, on_async_method, on_body_open, on_function_name, on_key,
+    on_name_key, on_other_key, on_parameter_read, on_parameters, on_parameters_open,
+    on_property_end,
+};
+use crate::outer::{constructs, plus, refuse, refused};
+use crate::statements::{
+    after_catch, after_export, after_then, after_try, on_catch, on_catch_body, on_catch_close,
+    on_catch_name, on_declared_name, on_export_object, on_export_word, on_finally, on_for_head,
+    on_for_test, on_for_update, on_jump, on_name_declared, on_opening, on_return, on_statement,
+    on_throw, on_try,
+};
 use crate::values::{after_value, after_whole};
-use crate::expressions::{after_async, after_operand, on_argument, on_arrow, on_arrow_body, on_cover_name, on_cover_open, on_covered, on_element, on_member, on_new, on_new_open};
-use crate::objects::{on_async_key, on_async_method, on_body_open, on_function_name, on_key, on_name_key, on_other_key, on_parameter_read, on_parameters, on_parameters_open, on_property_end, head_constructs};
-use crate::statements::{after_catch, after_export, after_then, after_try, on_catch, on_catch_body, on_catch_close, on_catch_name, on_declared_name, on_export_object, on_export_word, on_finally, on_for_head, on_for_test, on_for_update, on_jump, on_name_declared, on_opening, on_return, on_statement, on_throw, on_try};
-use js_lex::{Token};
-use std::alloc::{Global};
+use js_lex::Token;
+use std::alloc::Global;
 
 /// So many constructs may be open.
 pub const MOST_OPEN: usize = 128;
@@ -38,9 +50,13 @@ fn step_in_arrow(alloc: Global, outer: Outer, at: At, token: &Token) -> Result<S
         At::Async(name) => after_async(alloc, outer, name, token),
         At::CoverOpen(cover, names) => on_cover_open(alloc, outer, cover, names, token),
         At::CoverName(cover, names, last) => on_cover_name(alloc, outer, cover, names, last, token),
-        At::Covered(cover, names, is_alone) => on_covered(alloc, outer, cover, names, is_alone, token),
+        At::Covered(cover, names, is_alone) => on_covered(
+            alloc, outer, cover, names, is_alone, token,
+        ),
         At::Arrow(is_async, names) => on_arrow(outer, is_async, names, token),
-        At::ArrowBody(is_async, names) => on_arrow_body(alloc, outer, is_async, names, MOST_OPEN, token),
+        At::ArrowBody(is_async, names) => on_arrow_body(
+            alloc, outer, is_async, names, MOST_OPEN, token,
+        ),
         At::NewName => on_new(alloc, outer, token),
         At::NewOpen(name) => on_new_open(alloc, outer, name, token),
         at => step_in_object(alloc, outer, at, token),
@@ -65,7 +81,13 @@ fn step_in_function(alloc: Global, outer: Outer, at: At, token: &Token) -> Resul
     ensures { Steps (spec.step_in_function outer at token.now) result }
 {
     match at {
-        At::FunctionName(is_declaration, is_async) => on_function_name(alloc, outer, is_declaration, is_async, token),
+        At::FunctionName(is_declaration, is_async) => on_function_name(
+            alloc,
+            outer,
+            is_declaration,
+            is_async,
+            token,
+        ),
         At::ParametersOpen(head) => on_parameters_open(alloc, outer, head, token),
         At::Parameters(head, names) => on_parameters(alloc, outer, head, names, token),
         At::ParameterRead(head, names, name) => on_parameter_read(outer, head, names, name, token),

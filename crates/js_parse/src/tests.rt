@@ -66,7 +66,10 @@ fn scripts_of_the_grammar(rt: HostRuntime) -> Result<(), Fail> {
         (b"x = async function () {}", 1),
         // objects
         (b"x = {}", 1),
-        (b"({a, b: 1, 'c': 2, 3: 4, class: 5, get: 6, async, async() {}, async d() {}, if(e, f,) {},})", 1),
+        (
+            b"({a, b: 1, 'c': 2, 3: 4, class: 5, get: 6, async, async() {}, async d() {}, if(e, f,) {},})",
+            1,
+        ),
         (b"({async class() {}})", 1),
         // statements
         (b"function f(a, b,) { return a } async function g() {}", 2),
@@ -76,7 +79,10 @@ fn scripts_of_the_grammar(rt: HostRuntime) -> Result<(), Fail> {
         (b"for (let i = 0, j; i < 3; i++) {}", 1),
         (b"for (const of of of) of", 1),
         (b"for (a; b; c) while (d) e\nf", 2),
-        (b"try {} catch {} try {} catch (e) {} finally {} try {} finally {}", 3),
+        (
+            b"try {} catch {} try {} catch (e) {} finally {} try {} finally {}",
+            3,
+        ),
         (b"if (a) try {} catch {} else b", 1),
         (b"export default {fetch() {}} a", 2),
         (b"export default {};;", 2),

@@ -4,16 +4,21 @@ ghost use Rattle.js_parse.specs.Shapes.{strength as strength_of};
 ghost use Rattle.js_parse.specs.Values as spec;
 ghost use Rattle.js_parse.specs.Steps.{Steps, Gives, Folds};
 
-use crate::machine::{Operator, Tail, Callee, Purpose, Declared, Body, Frame, Open, At, Outer, State, StepEnd};
-use crate::outer::{because, refuse, refuse_at, to, with, boxed, plus, inside, pop, wait, wait_operand, wait_tail, wait_body};
-use crate::tokens::{is_close_paren, is_close_bracket, is_semicolon, is_comma, is_colon};
-use crate::objects::{close_object};
+use crate::machine::{
+    At, Body, Callee, Declared, Frame, Open, Operator, Outer, Purpose, State, StepEnd, Tail,
+};
+use crate::objects::close_object;
+use crate::outer::{
+    because, boxed, inside, plus, pop, refuse, refuse_at, to, wait, wait_body, wait_operand,
+    wait_tail, with,
+};
+use crate::stack::Stack;
 use crate::statements::{end, with_declaration};
-use crate::stack::{Stack};
+use crate::tokens::{is_close_bracket, is_close_paren, is_colon, is_comma, is_semicolon};
 use js_lex::{Punctuator, TemplatePart, Token, TokenKind};
 use js_tree::{ArrowBody, BinaryOp, Expr, ForBegin, Property, Stmt, TemplateItem, UpdateSide};
-use js_words::{Spot};
-use std::alloc::{Global};
+use js_words::Spot;
+use std::alloc::Global;
 use wd_base::{NoMemory, Seq, TryClone};
 
 fn binary_op(sign: Punctuator) -> Option<BinaryOp>
@@ -186,7 +191,13 @@ fn joins(
 }
 
 /// A binary operator. Prefix operators end before it, and the operators of its chain do not.
-fn binary(alloc: Global, outer: Outer, op: BinaryOp, value: Expr, token: &Token) -> Result<State, StepEnd>
+fn binary(
+    alloc: Global,
+    outer: Outer,
+    op: BinaryOp,
+    value: Expr,
+    token: &Token,
+) -> Result<State, StepEnd>
     ensures { Steps (spec.on_binary outer op value token.now) result }
 {
     let Outer {
@@ -223,7 +234,13 @@ fn tests(alloc: Global, outer: Outer, value: Expr) -> Result<State, StepEnd>
     wait(outer, 1, Purpose::Then(test))
 }
 
-fn after_sign(alloc: Global, outer: Outer, value: Expr, token: &Token, sign: Punctuator) -> Result<State, StepEnd>
+fn after_sign(
+    alloc: Global,
+    outer: Outer,
+    value: Expr,
+    token: &Token,
+    sign: Punctuator,
+) -> Result<State, StepEnd>
     ensures { Steps (spec.after_operator outer value token.now sign (spec.binary_op sign)) result }
 {
     match binary_op(sign) {
@@ -236,7 +253,12 @@ fn after_sign(alloc: Global, outer: Outer, value: Expr, token: &Token, sign: Pun
 }
 
 /// A token behind a value that a binary operator or `?` may follow.
-pub fn after_value(alloc: Global, outer: Outer, value: Expr, token: &Token) -> Result<State, StepEnd>
+pub fn after_value(
+    alloc: Global,
+    outer: Outer,
+    value: Expr,
+    token: &Token,
+) -> Result<State, StepEnd>
     ensures { Steps (spec.after_value outer value token.now) result }
 {
     match &token.kind {
@@ -288,7 +310,12 @@ fn fold_tails(
 }
 
 /// A token behind a value that is whole.
-pub fn after_whole(alloc: Global, outer: Outer, value: Expr, token: &Token) -> Result<State, StepEnd>
+pub fn after_whole(
+    alloc: Global,
+    outer: Outer,
+    value: Expr,
+    token: &Token,
+) -> Result<State, StepEnd>
     ensures { Steps (spec.after_whole outer value token.now) result }
 {
     let Outer {
@@ -311,7 +338,12 @@ pub fn after_whole(alloc: Global, outer: Outer, value: Expr, token: &Token) -> R
 }
 
 /// The call, or the `new`, whose arguments are whole.
-pub fn call(alloc: Global, outer: Outer, callee: Callee, arguments: Seq<Expr>) -> Result<State, StepEnd>
+pub fn call(
+    alloc: Global,
+    outer: Outer,
+    callee: Callee,
+    arguments: Seq<Expr>,
+) -> Result<State, StepEnd>
     ensures { Steps (spec.call outer callee arguments) result }
 {
     match callee {
@@ -403,7 +435,12 @@ fn label_before(value: &Expr) -> Option<Spot>
 }
 
 /// An expression as a statement is whole. A name that `:` follows is a label.
-fn on_statement_end(alloc: Global, outer: Outer, value: Expr, token: &Token) -> Result<State, StepEnd>
+fn on_statement_end(
+    alloc: Global,
+    outer: Outer,
+    value: Expr,
+    token: &Token,
+) -> Result<State, StepEnd>
     ensures { Steps (spec.on_statement_end outer value token.now) result }
 {
     let why = because(label_before(&value), Some(Spot::OperandEnd));
@@ -411,7 +448,12 @@ fn on_statement_end(alloc: Global, outer: Outer, value: Expr, token: &Token) -> 
 }
 
 /// The value of a declaration is whole.
-fn on_initial_end(alloc: Global, outer: Outer, declared: Declared, token: &Token) -> Result<State, StepEnd>
+fn on_initial_end(
+    alloc: Global,
+    outer: Outer,
+    declared: Declared,
+    token: &Token,
+) -> Result<State, StepEnd>
     ensures { Steps (spec.on_initial_end outer declared token.now) result }
 {
     if is_comma(token) {
