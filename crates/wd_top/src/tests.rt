@@ -451,15 +451,15 @@ fn the_journal_of_one_request(rt: HostRuntime) -> Result<(), Fail> {
     Ok(())
 }
 
-/// The names of the services at which requests arrived, one behind another.
-fn arrived_at(alloc: Global, entries: &[Entry]) -> Result<Bytes, NoMemory> {
-    let mut names = Seq::new(alloc);
-    for entry in entries {
-        if let Entry::Arrive { service, .. } = entry {
-            names.extend(service.as_slice())?;
-        }
-    }
-    Ok(names)
+/// How many requests arrived at the service of this name.
+fn arrivals_at(entries: &[Entry], name: &[u8]) -> usize {
+    entries
+        .iter()
+        .filter(|entry| match entry {
+            Entry::Arrive { service, .. } => service.as_slice() == name,
+            _ => false,
+        })
+        .count()
 }
 
 #[test]
@@ -475,10 +475,11 @@ fn each_socket_has_its_service(rt: HostRuntime) -> Result<(), Fail> {
     let (first, _) = link_of(came.ended.ports.as_slice(), 1);
     let (second, _) = link_of(came.ended.ports.as_slice(), 2);
     let replies = joined(rt.alloc(), &[REPLY, REPLY])?;
-    let names = arrived_at(rt.alloc(), came.ended.journal.entries.as_slice())?;
+    let entries = came.ended.journal.entries.as_slice();
     assert_eq!(rt; came.ended.status, 0);
     assert!(rt; first == replies.as_slice() && second == REPLY);
-    assert!(rt; names.as_slice() == b"aba".as_slice());
+    assert_eq!(rt; arrivals_at(entries, b"a"), 2);
+    assert_eq!(rt; arrivals_at(entries, b"b"), 1);
     Ok(())
 }
 
