@@ -4,3 +4,15 @@ pub mod DateSteps
 pub mod Exact
 pub mod NumberSteps
 pub mod RangeSteps
+pub mod NameLemmas
+pub mod Comes
+pub mod LeafLaws
+pub mod Along
+pub mod ItemLemmas
+pub mod Loads
+pub mod Ended
+pub mod OneAnswer
+pub mod DifferLemmas
+pub mod Follow
+pub mod ValueLaws
+pub mod ConfiguredLaws

@@ -1,5 +1,16 @@
 pub mod Addresses
+pub mod Answer
+pub mod Build
+pub mod Configured
 pub mod Cut
 pub mod Dates
+pub mod Given
+pub mod Items
+pub mod Leaves
+pub mod Names
 pub mod Numbers
 pub mod Ranges
+pub mod Reading
+pub mod Schema
+pub mod Scope
+pub mod Values

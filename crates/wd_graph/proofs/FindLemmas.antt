@@ -1,8 +1,8 @@
 -- Rows that are found by a test.
-use Rattle.std.proofs.Common.{◌≡◌, ℕ, ◌+◌, ◌<◌, Bool, true, false, not, ◌||◌, cond, List, [], ◌∷◌, ◌++◌, length, map, Some, None, option_map, if◌then◌else◌, refl, sym, ap, ◌∙◌, arith, nat_eq, ◌&&◌}
+use Rattle.std.proofs.Common.{◌≡◌, ℕ, ◌+◌, ◌<◌, Bool, true, false, not, ◌||◌, cond, List, [], ◌∷◌, ◌++◌, length, map, Some, None, option_map, if◌then◌else◌, is_some, refl, sym, ap, ◌∙◌, arith, nat_eq, ◌&&◌}
 use Rattle.std.proofs.lemmas.Bool.{false≢true}
 use Rattle.std.proofs.lemmas.Bool.Decides.{nat_tests}
-use Rattle.std.specs.List.{position_from, find}
+use Rattle.std.specs.List.{position_from, find, list_any}
 use Rattle.wd_base.specs.declared.config.Service.{Service}
 use Rattle.wd_graph.specs.Names.{same_name, is_named, has_name, names_differ}
 use Rattle.wd_graph.specs.Links.{with_internet, internet, internet_name}
@@ -50,13 +50,13 @@ nat_eq_swap : (a b : ℕ) → nat_eq a b ≡ nat_eq b a
 nat_eq_swap a b = grind (arith, nat_tests)
 
 -- one name is the other where the other is the one
-same_name_swap : (a b : List ℕ) → same_name a b ≡ same_name b a
+pub same_name_swap : (a b : List ℕ) → same_name a b ≡ same_name b a
 same_name_swap [] [] = refl
 same_name_swap [] (y ∷ ys) = refl
 same_name_swap (x ∷ xs) [] = refl
 same_name_swap (x ∷ xs) (y ∷ ys) = ap (λ t. t && same_name xs ys) (nat_eq_swap x y) ∙ ap (λ t. nat_eq y x && t) (same_name_swap xs ys)
 
-or_left : (a b : Bool) → (a || b) ≡ false → a ≡ false
+pub or_left : (a b : Bool) → (a || b) ≡ false → a ≡ false
 or_left true b e = e
 or_left false b e = refl
 
@@ -64,11 +64,11 @@ or_right : (a b : Bool) → (a || b) ≡ false → b ≡ false
 or_right true b e = absurd (false≢true (sym e))
 or_right false b e = e
 
-not_left : (a b : Bool) → (not a && b) ≡ true → a ≡ false
+pub not_left : (a b : Bool) → (not a && b) ≡ true → a ≡ false
 not_left true b e = absurd (false≢true e)
 not_left false b e = refl
 
-not_right : (a b : Bool) → (not a && b) ≡ true → b ≡ true
+pub not_right : (a b : Bool) → (not a && b) ≡ true → b ≡ true
 not_right true b e = absurd (false≢true e)
 not_right false b e = e
 
@@ -94,7 +94,7 @@ names_differ_internet ss differ =
       | false ↦ λ e. differ_push ss internet e differ
     ] refl
 
-or_true : (b : Bool) → (b || true) ≡ true
+pub or_true : (b : Bool) → (b || true) ≡ true
 or_true true = refl
 or_true false = refl
 
@@ -110,3 +110,15 @@ internet_known ss =
       | true ↦ λ e. e
       | false ↦ λ e. last_known ss internet refl
     ] refl
+
+any_from : {X : Type 0} (p : X → Bool) (xs : List X) (n : ℕ) → is_some (position_from p n xs) ≡ list_any p xs
+any_from p [] n = refl
+any_from p (x ∷ xs) n =
+    elim (p x) as (λ b. is_some (cond b (Some n) (position_from p (n + 1) xs)) ≡ (b || list_any p xs)) [
+      | true ↦ refl
+      | false ↦ any_from p xs (n + 1)
+    ]
+
+-- a row passes where one is found
+pub any_from_position : {X : Type 0} (p : X → Bool) (xs : List X) → is_some (position_from p 0 xs) ≡ list_any p xs
+any_from_position p xs = any_from p xs 0

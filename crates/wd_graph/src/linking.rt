@@ -4,6 +4,7 @@ ghost use Rattle.std.specs.Option.{option_copied};
 ghost use Rattle.wd_graph.specs.Names.{names_differ, has_name, targets};
 ghost use Rattle.wd_graph.specs.Links.{Links, internet, with_internet, first_unknown, is_unknown, named_by, named_at};
 
+use crate::directory::Directory;
 use crate::world::World;
 use std::alloc::Global;
 use wd_base::{
@@ -40,10 +41,13 @@ pub fn link(alloc: Global, config: Config) -> Result<World, LinkEnd>
     let Ok(services) = add_internet(alloc, services) else {
         return Err(LinkEnd::NoMemory);
     };
-    match unknown(alloc, services.as_slice(), sockets.as_slice()) {
+    let Ok(directory) = Directory::new(alloc, services) else {
+        return Err(LinkEnd::NoMemory);
+    };
+    match unknown(alloc, &directory, sockets.as_slice()) {
         Err(NoMemory) => Err(LinkEnd::NoMemory),
         Ok(Some(fault)) => Err(LinkEnd::Unknown(fault)),
-        Ok(None) => Ok(World::of(services, sockets)),
+        Ok(None) => Ok(World::of(directory, sockets)),
     }
 }
 
@@ -51,7 +55,7 @@ pub fn link(alloc: Global, config: Config) -> Result<World, LinkEnd>
 fn add_internet(alloc: Global, services: Services) -> Result<Services, NoMemory>
     ensures { IfOk result (λ all. all ≡ with_internet services) }
 {
-    if is_known(services.as_slice(), b"internet") {
+    if is_among(services.as_slice(), b"internet") {
         return Ok(services);
     }
     let mut services = services;
@@ -78,35 +82,43 @@ fn internet(alloc: Global) -> Result<Service, NoMemory>
     })
 }
 
-/// A service has this name.
-fn is_known(services: &[Service], name: &[u8]) -> bool
+/// A service of the list has this name.
+fn is_among(services: &[Service], name: &[u8]) -> bool
     ensures { result ≡ has_name services.now name.now }
 {
     services.iter().any(|s| s.name.as_slice() == name)
+}
+
+/// A service has this name.
+#[tactic(auto, using(crate::proofs::FindLemmas::any_from_position))]
+fn is_known(directory: &Directory, name: &[u8]) -> bool
+    ensures { result ≡ has_name directory.now name.now }
+{
+    directory.number(name).is_some()
 }
 
 /// The first name that no service has, services before sockets.
 #[tactic(auto, using(crate::proofs::FindLemmas::find_append_none, crate::proofs::FindLemmas::find_append_some))]
 fn unknown(
     alloc: Global,
-    services: &[Service],
+    directory: &Directory,
     sockets: &[Socket],
 ) -> Result<Option<GraphFault>, NoMemory>
-    ensures { IfOk result (λ fault. fault ≡ first_unknown (record { services = services.now; sockets = sockets.now })) }
+    ensures { IfOk result (λ fault. fault ≡ first_unknown (record { services = directory.now; sockets = sockets.now })) }
 {
-    match unknown_to_workers(alloc, services)? {
+    match unknown_to_workers(alloc, directory)? {
         Some(fault) => Ok(Some(fault)),
-        None => unknown_to_sockets(alloc, services, sockets),
+        None => unknown_to_sockets(alloc, directory, sockets),
     }
 }
 
 /// The first name that a Worker refers to and no service has.
 #[tactic(auto, using(crate::proofs::FindLemmas::find_append_none, crate::proofs::FindLemmas::find_append_some))]
-fn unknown_to_workers(alloc: Global, services: &[Service]) -> Result<Option<GraphFault>, NoMemory>
-    ensures { IfOk result (λ fault. fault ≡ find (is_unknown services.now) (flat_map named_by services.now)) }
+fn unknown_to_workers(alloc: Global, directory: &Directory) -> Result<Option<GraphFault>, NoMemory>
+    ensures { IfOk result (λ fault. fault ≡ find (is_unknown directory.now) (flat_map named_by directory.now)) }
 {
-    for service in services {
-        if let Some(fault) = unknown_to(alloc, services, service)? {
+    for service in directory.services().as_slice() {
+        if let Some(fault) = unknown_to(alloc, directory, service)? {
             return Ok(Some(fault));
         }
     }
@@ -117,32 +129,32 @@ fn unknown_to_workers(alloc: Global, services: &[Service]) -> Result<Option<Grap
 #[tactic(auto, using(crate::proofs::FindLemmas::find_map))]
 fn unknown_to(
     alloc: Global,
-    services: &[Service],
+    directory: &Directory,
     service: &Service,
 ) -> Result<Option<GraphFault>, NoMemory>
-    ensures { IfOk result (λ fault. fault ≡ find (is_unknown services.now) (named_by service.now)) }
+    ensures { IfOk result (λ fault. fault ≡ find (is_unknown directory.now) (named_by service.now)) }
 {
     let Kind::Worker(worker) = &service.kind else {
         return Ok(None);
     };
-    match unknown_target(services, worker) {
+    match unknown_target(directory, worker) {
         Some(name) => Ok(Some(fault(alloc, &service.name, name)?)),
         None => Ok(None),
     }
 }
 
 /// The first target of a Worker that is the name of no service.
-fn unknown_target<'a>(services: &[Service], worker: &'a WorkerDef) -> Option<&'a Bytes>
-    ensures { option_copied result ≡ find (λ name. not (has_name services.now name)) (targets worker.now) }
+fn unknown_target<'a>(directory: &Directory, worker: &'a WorkerDef) -> Option<&'a Bytes>
+    ensures { option_copied result ≡ find (λ name. not (has_name directory.now name)) (targets worker.now) }
 {
     for binding in worker.bindings.as_slice() {
         if let BindValue::Service(name) = &binding.value {
-            if !is_known(services, name.as_slice()) {
+            if !is_known(directory, name.as_slice()) {
                 return Some(name);
             }
         }
     }
-    if !is_known(services, worker.outbound.as_slice()) {
+    if !is_known(directory, worker.outbound.as_slice()) {
         return Some(&worker.outbound);
     }
     None
@@ -151,13 +163,13 @@ fn unknown_target<'a>(services: &[Service], worker: &'a WorkerDef) -> Option<&'a
 /// The first service of a socket that is not there.
 fn unknown_to_sockets(
     alloc: Global,
-    services: &[Service],
+    directory: &Directory,
     sockets: &[Socket],
 ) -> Result<Option<GraphFault>, NoMemory>
-    ensures { IfOk result (λ fault. fault ≡ find (is_unknown services.now) (map named_at sockets.now)) }
+    ensures { IfOk result (λ fault. fault ≡ find (is_unknown directory.now) (map named_at sockets.now)) }
 {
     for socket in sockets {
-        if !is_known(services, socket.service.as_slice()) {
+        if !is_known(directory, socket.service.as_slice()) {
             return Ok(Some(fault(alloc, &socket.name, &socket.service)?));
         }
     }

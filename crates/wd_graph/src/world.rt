@@ -1,8 +1,13 @@
-ghost use Rattle.std.specs.Prelude.{◌≡◌, ◌<◌, length, IfSome};
-ghost use Rattle.wd_graph.specs.Names.{number_of};
+ghost use Rattle.std.specs.Prelude.{◌≡◌, ◌<◌, ◌↔◌, length, IsTrue, Some};
+ghost use Rattle.wd_graph.specs.Names.{service_of};
+ghost use Rattle.wd_graph.specs.Walk.{MarkedStand};
 
+use crate::directory::Directory;
+use crate::walk::{marks_from, numbers_of};
+use crate::workers::workers;
+use std::alloc::Global;
 use std::marker::Model;
-use wd_base::{Service, ServiceNo, Services, Sockets};
+use wd_base::{Kind, NameList, NoMemory, Same, Seq, Service, ServiceNo, Services, Sockets};
 
 /// A configuration whose names were looked up: each service that it names stands in it, no two
 /// services have one name, and there is one called `internet`.
@@ -10,7 +15,7 @@ use wd_base::{Service, ServiceNo, Services, Sockets};
 /// Contracts see it as the configuration, with the `internet` that was added as its last service.
 #[derive(Debug, Drop)]
 pub struct World {
-    services: Services,
+    directory: Directory,
     sockets: Sockets,
 }
 
@@ -22,40 +27,41 @@ impl Model for World {
 
     ghost Value = { Config };
 
-    ghost view = { λ w. record { services = w.services; sockets = w.sockets } };
+    ghost view = { λ w. record { services = w.directory; sockets = w.sockets } };
 
-    ghost invariant = { λ w. (length w.services < 2 ^ 32) × IsTrue (names_differ w.services) × (first_unknown (record { services = w.services; sockets = w.sockets }) ≡ None) × IsTrue (has_name w.services internet_name) };
+    ghost invariant = { λ w. (length w.directory < 2 ^ 32) × IsTrue (names_differ w.directory) × (first_unknown (record { services = w.directory; sockets = w.sockets }) ≡ None) × IsTrue (has_name w.directory internet_name) };
 }
 
 impl World {
-    ghost use Rattle.std.specs.Prelude.{◌≡◌, ◌<◌, ◌^◌, Some, None, length, slice_get, option_map, IsTrue};
+    ghost use Rattle.std.specs.Prelude.{◌≡◌, ◌<◌, ◌^◌, ◌↔◌, Some, None, length, slice_get, option_map, IsTrue, IfOk};
+    ghost use Rattle.wd_graph.specs.Graph.{Agrees, IsReach, name_at, workers_in};
     ghost use Rattle.wd_graph.specs.Links.{first_unknown, internet_name};
-    ghost use Rattle.wd_graph.specs.Names.{has_name, names_differ, number_of};
+    ghost use Rattle.wd_graph.specs.Names.{has_name, names_differ, number_of, worker_at};
 
     /// The world of these services and sockets.
-    pub(crate) fn of(services: Services, sockets: Sockets) -> World
-        requires few { length services < 2 ^ 32 }
-        requires differ { IsTrue (names_differ services) }
-        requires known { first_unknown (record { services = services; sockets = sockets }) ≡ None }
-        requires internet { IsTrue (has_name services internet_name) }
-        ensures { result ≡ record { services = services; sockets = sockets } }
+    pub(crate) fn of(directory: Directory, sockets: Sockets) -> World
+        requires few { length directory < 2 ^ 32 }
+        requires differ { IsTrue (names_differ directory) }
+        requires known { first_unknown (record { services = directory; sockets = sockets }) ≡ None }
+        requires internet { IsTrue (has_name directory internet_name) }
+        ensures { result ≡ record { services = directory; sockets = sockets } }
     {
-        World { services, sockets }
+        World { directory, sockets }
     }
 
     /// How many services there are. They are numbered from 0 in the order of the configuration.
     pub fn count(&self) -> u32
         ensures { result ≡ length self.now.services }
     {
-        self.services.len() as u32
+        self.directory.services().len() as u32
     }
 
     /// The number of the service of this name, and None where there is none.
     pub fn number(&self, name: &[u8]) -> Option<ServiceNo>
         ensures { option_map (λ no. no.0) result ≡ number_of name.now self.now.services }
     {
-        match place_of(self.services.as_slice(), name) {
-            Some(place) => Some(ServiceNo(place as u32)),
+        match self.directory.number(name) {
+            Some(number) => Some(ServiceNo(number)),
             None => None,
         }
     }
@@ -64,7 +70,7 @@ impl World {
     pub fn services(&self) -> &Services
         ensures { result.now ≡ self.now.services }
     {
-        &self.services
+        self.directory.services()
     }
 
     /// The service of this number.
@@ -72,7 +78,7 @@ impl World {
         requires { no.0 < length self.now.services }
         ensures { slice_get self.now.services no.0 ≡ Some result.now }
     {
-        &self.services.as_slice()[no.0 as usize]
+        &self.directory.services().as_slice()[no.0 as usize]
     }
 
     /// The sockets, in the order of the configuration.
@@ -81,13 +87,63 @@ impl World {
     {
         &self.sockets
     }
+
+    /// The services that the service `no` reaches, by ascending numbers: itself, and with each
+    /// Worker those of its service bindings and of its outbound. Each is visited once.
+    pub fn reach(&self, alloc: Global, no: ServiceNo) -> Result<Seq<ServiceNo>, NoMemory>
+        requires { no.0 < length self.now.services }
+        ensures { IfOk result (λ numbers. IsReach self.now.services no.0 numbers) }
+    {
+        let marks = marks_from(alloc, &self.directory, no.0)?;
+        numbers_of(alloc, marks.as_slice())
+    }
+
+    /// The names of the Workers among the services of a Worker's service bindings, in their order,
+    /// and then of its outbound, each at its first place alone; none of a service that is no Worker.
+    pub fn workers_of(&self, alloc: Global, no: ServiceNo) -> Result<NameList, NoMemory>
+        requires { no.0 < length self.now.services }
+        ensures { IfOk result (λ names. names ≡ workers_in self.now.services (worker_at (slice_get self.now.services no.0))) }
+    {
+        match &self.service(no).kind {
+            Kind::Worker(worker) => workers(alloc, &self.directory, worker),
+            _ => Ok(Seq::new(alloc)),
+        }
+    }
+
+    /// Whether each service that the service `no` reaches stands in `other` under the same name,
+    /// with an equal definition.
+    pub fn agree(&self, alloc: Global, other: &World, no: ServiceNo) -> Result<bool, NoMemory>
+        requires { no.0 < length self.now.services }
+        ensures { IfOk result (λ agrees. IsTrue agrees ↔ Agrees self.now.services other.now.services (name_at self.now.services no.0)) }
+    {
+        let marks = marks_from(alloc, &self.directory, no.0)?;
+        let services = self.directory.services();
+        Ok(marked_stand(services.as_slice(), marks.as_slice(), &other.directory))
+    }
 }
 
-/// The place of the service of this name.
-#[tactic(auto, using(crate::proofs::FindLemmas::place_within))]
-fn place_of(services: &[Service], name: &[u8]) -> Option<usize>
-    ensures place { result ≡ number_of name.now services.now }
-    ensures within { IfSome result (λ i. i < length services.now) }
+/// Whether each marked service stands in `other` under the same name, with an equal definition.
+fn marked_stand(services: &[Service], marks: &[bool], other: &Directory) -> bool
+    requires { length marks.now ≡ length services.now }
+    ensures { IsTrue result ↔ MarkedStand services.now marks.now other.now }
 {
-    services.iter().position(|s| s.name.as_slice() == name)
+    for (number, service) in services.iter().enumerate() {
+        if marks[number] && !stands(service, other) {
+            return false;
+        }
+    }
+    true
+}
+
+/// Whether a service stands in `other` under the same name, with an equal definition.
+fn stands(service: &Service, other: &Directory) -> bool
+    ensures { IsTrue result ↔ (service_of service.now.name other.now ≡ Some service.now) }
+{
+    match other.number(service.name.as_slice()) {
+        Some(number) => match other.services().get(number as usize) {
+            Some(found) => service.same(found),
+            None => false,
+        },
+        None => false,
+    }
 }

@@ -1,13 +1,8 @@
 pub mod FormSteps
-pub mod ScriptSteps
 pub mod HeadSteps
 pub mod HeadUnique
 pub mod StreamSteps
-pub mod ConfigSteps
-pub mod EmbedSteps
-pub mod WorldSteps
 pub mod BoardSteps
-pub mod FaultPath
 pub mod FaultSteps
 pub mod HandleSteps
 pub mod LiveSteps
@@ -17,5 +12,4 @@ pub mod TableSteps
 pub mod TalkSteps
 pub mod Told
 pub mod ListenSteps
-pub mod PlanUnique
 pub mod EndSteps

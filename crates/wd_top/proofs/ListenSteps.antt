@@ -30,11 +30,8 @@ listens_more first t new ss i s h e so_far tells =
 
 failed_holds : (world : Config) (o : Outcome) (t : Told) (gone : LinkNo → Type 0) (f : Faults) (entries : List Entry) → ListenEnd (addresses world.sockets) t f o → OutcomeHolds world o t gone f entries
 failed_holds world outcome.Done t gone f entries h = absurd h
-failed_holds world outcome.CommandLine t gone f entries h = h
-failed_holds world (outcome.Config fault) t gone f entries h = h
-failed_holds world (outcome.Script name) t gone f entries h = h
-failed_holds world (outcome.MissingFile path) t gone f entries h = h
-failed_holds world (outcome.FileFault path) t gone f entries h = h
+failed_holds world (outcome.Checked services sockets) t gone f entries h = h
+failed_holds world (outcome.Refused why) t gone f entries h = h
 failed_holds world (outcome.NoPort seat) t gone f entries h = h
 failed_holds world (outcome.NoListen address) t gone f entries h = h
 failed_holds world outcome.NoMemory t gone f entries h = h

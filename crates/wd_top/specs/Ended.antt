@@ -7,17 +7,20 @@ use Rattle.wd_machine.specs.declared.journal.Entry.{Entry}
 use Rattle.wd_machine.specs.declared.journal.Head.TheVariants.{Whole}
 use Rattle.wd_machine.specs.declared.journal.Journal.{Journal}
 use Rattle.wd_machine.specs.Runs.{legal}
+use Rattle.wd_plan.specs.declared.command.Verb.TheVariants as verb
+use Rattle.wd_plan.specs.declared.refusal.Refusal.{Refusal}
+use Rattle.wd_plan.specs.declared.refusal.Refusal.TheVariants as refusal
+use Rattle.wd_plan.specs.Command.{command}
+use Rattle.wd_plan.specs.Constant.{constant_means}
+use Rattle.wd_plan.specs.Plan.{Plan, Refuses, Starts, Plans, IsReadPath}
+use Rattle.wd_plan.specs.Refusal.{status_of as refusal_status}
 use Rattle.wd_ports.specs.declared.told.Faults.{Faults}
 use Rattle.wd_ports.specs.Faults.{Listen, part}
 use Rattle.wd_ports.specs.Told.{Told, Stored}
 use Rattle.wd_top.specs.declared.outcome.Outcome.{Outcome}
 use Rattle.wd_top.specs.declared.outcome.Outcome.TheVariants as outcome
 use Rattle.wd_top.specs.Board.{IsOver}
-use Rattle.wd_top.specs.Command.{command}
-use Rattle.wd_top.specs.Constant.{constant_means}
 use Rattle.wd_top.specs.Outcome.{Reports}
-use Rattle.wd_top.specs.Plan.{Plan, NoCommand, NoFile, NoConfig, NoScript, Serves, Plans}
-use Rattle.wd_top.specs.Prepare.{IsEarly, IsReadPath}
 use Rattle.wd_top.specs.Session.{Session, Done}
 use Rattle.wd_top.specs.Table.{addresses}
 use Rattle.wd_top.specs.Talk.{IsOfSeat}
@@ -32,15 +35,9 @@ next_address all t = slice_get all (length t.sockets)
 
 -- why a port does not listen at all of the addresses
 abbrev pub ListenEnd : List Addr → Told → Faults → Outcome → Type 0
-ListenEnd all t f outcome.Done = ⊥
-ListenEnd all t f outcome.CommandLine = ⊥
-ListenEnd all t f (outcome.Config fault) = ⊥
-ListenEnd all t f (outcome.Script name) = ⊥
-ListenEnd all t f (outcome.MissingFile path) = ⊥
-ListenEnd all t f (outcome.FileFault path) = ⊥
-ListenEnd all t f (outcome.NoPort seat) = ⊥
 ListenEnd all t f (outcome.NoListen address) = (0 < part Listen f) × (next_address all t ≡ Some address)
 ListenEnd all t f outcome.NoMemory = Unit {0}
+ListenEnd all t f _ = ⊥
 
 -- the list is the front of another one
 abbrev pub IsFront : List Addr → List Addr → Type 0
@@ -60,14 +57,9 @@ pub record IsDone (world : Config) (t : Told) (gone : LinkNo → Type 0) (entrie
 -- what each outcome says of a port, whose count began at 0
 abbrev pub OutcomeHolds : Config → Outcome → Told → (LinkNo → Type 0) → Faults → List Entry → Type 0
 OutcomeHolds world outcome.Done t gone f entries = IsDone world t gone entries
-OutcomeHolds world outcome.CommandLine t gone f entries = ⊥
-OutcomeHolds world (outcome.Config fault) t gone f entries = ⊥
-OutcomeHolds world (outcome.Script name) t gone f entries = ⊥
-OutcomeHolds world (outcome.MissingFile path) t gone f entries = ⊥
-OutcomeHolds world (outcome.FileFault path) t gone f entries = ⊥
-OutcomeHolds world (outcome.NoPort seat) t gone f entries = ⊥
 OutcomeHolds world (outcome.NoListen address) t gone f entries = (0 < part Listen f) × (next_address (addresses world.sockets) t ≡ Some address)
 OutcomeHolds world outcome.NoMemory t gone f entries = Unit {0}
+OutcomeHolds world _ t gone f entries = ⊥
 
 -- what holds of a port: at every outcome it listens at the first of the world's sockets and at nothing else, and its links carry its part of the journal
 pub record Holds (world : Config) (o : Outcome) (t : Told) (gone : LinkNo → Type 0) (f : Faults) (entries : List Entry) : Type 0 where
@@ -78,50 +70,34 @@ pub record Holds (world : Config) (o : Outcome) (t : Told) (gone : LinkNo → Ty
 -- how a session may come out
 abbrev pub IsSessionEnd : Outcome → Type 0
 IsSessionEnd outcome.Done = Unit {0}
-IsSessionEnd outcome.CommandLine = ⊥
-IsSessionEnd (outcome.Config fault) = ⊥
-IsSessionEnd (outcome.Script name) = ⊥
-IsSessionEnd (outcome.MissingFile path) = ⊥
-IsSessionEnd (outcome.FileFault path) = ⊥
 IsSessionEnd (outcome.NoPort seat) = seat.0 ≡ 0
 IsSessionEnd (outcome.NoListen address) = Unit {0}
 IsSessionEnd outcome.NoMemory = Unit {0}
+IsSessionEnd _ = ⊥
 
--- a port was made, and is handed out
+-- an outcome without a session
+abbrev pub IsEarly : Outcome → Type 0
+IsEarly (outcome.Checked services sockets) = Unit {0}
+IsEarly (outcome.Refused why) = Unit {0}
+IsEarly outcome.NoMemory = Unit {0}
+IsEarly _ = ⊥
+
+-- where the world has a socket, a port was made, and is handed out
 abbrev pub HasPort : Outcome → Type 0
 HasPort outcome.Done = Unit {0}
-HasPort outcome.CommandLine = ⊥
-HasPort (outcome.Config fault) = ⊥
-HasPort (outcome.Script name) = ⊥
-HasPort (outcome.MissingFile path) = ⊥
-HasPort (outcome.FileFault path) = ⊥
-HasPort (outcome.NoPort seat) = ⊥
 HasPort (outcome.NoListen address) = Unit {0}
-HasPort outcome.NoMemory = ⊥
+HasPort _ = ⊥
 
 -- no port could be made, or it could not listen
 abbrev pub IsPortFault : Outcome → Type 0
-IsPortFault outcome.Done = ⊥
-IsPortFault outcome.CommandLine = ⊥
-IsPortFault (outcome.Config fault) = ⊥
-IsPortFault (outcome.Script name) = ⊥
-IsPortFault (outcome.MissingFile path) = ⊥
-IsPortFault (outcome.FileFault path) = ⊥
 IsPortFault (outcome.NoPort seat) = Unit {0}
 IsPortFault (outcome.NoListen address) = Unit {0}
-IsPortFault outcome.NoMemory = ⊥
+IsPortFault _ = ⊥
 
 -- no port could be made
 abbrev pub NoPortMade : Outcome → Type 0
-NoPortMade outcome.Done = ⊥
-NoPortMade outcome.CommandLine = ⊥
-NoPortMade (outcome.Config fault) = ⊥
-NoPortMade (outcome.Script name) = ⊥
-NoPortMade (outcome.MissingFile path) = ⊥
-NoPortMade (outcome.FileFault path) = ⊥
 NoPortMade (outcome.NoPort seat) = Unit {0}
-NoPortMade (outcome.NoListen address) = ⊥
-NoPortMade outcome.NoMemory = ⊥
+NoPortMade _ = ⊥
 
 -- what a call is given, and what failed in it: its words, the told files, whether a read of them failed, and whether the maker did
 pub record Call : Type 1 where
@@ -141,24 +117,39 @@ pub record Printed : Type 0 where
 abbrev pub Asks : Call → Plan → Type 0
 Asks call plan = IfSome call.files (λ s. Plans call.words s plan)
 
+-- the cause of a refusal
+abbrev pub RefusedFor : Call → Refusal → Type 0
+RefusedFor call refusal.CommandLine = command call.words ≡ None
+RefusedFor call (refusal.FileFault path) = call.read_failed × IsReadPath call.words call.files path
+RefusedFor call why = Asks call (Refuses why)
+
 -- the cause of each outcome
 abbrev pub Caused : Call → Config → Outcome → Type 0
-Caused call world outcome.Done = Asks call (Serves world)
-Caused call world outcome.CommandLine = command call.words ≡ None
-Caused call world (outcome.Config fault) = Asks call (NoConfig fault)
-Caused call world (outcome.Script name) = Asks call (NoScript name)
-Caused call world (outcome.MissingFile path) = Asks call (NoFile path)
-Caused call world (outcome.FileFault path) = call.read_failed × IsReadPath call.words call.files path
-Caused call world (outcome.NoPort seat) = (seat.0 ≡ 0) × Asks call (Serves world) × call.maker_failed
-Caused call world (outcome.NoListen address) = Asks call (Serves world)
+Caused call world outcome.Done = Asks call (Starts verb.Serve world)
+Caused call world (outcome.Checked services sockets) = Asks call (Starts verb.Check world) × (services ≡ length world.services) × (sockets ≡ length world.sockets)
+Caused call world (outcome.Refused why) = RefusedFor call why
+Caused call world (outcome.NoPort seat) = (seat.0 ≡ 0) × Asks call (Starts verb.Serve world) × call.maker_failed
+Caused call world (outcome.NoListen address) = Asks call (Starts verb.Serve world)
 Caused call world outcome.NoMemory = Unit {0}
+
+-- the outcome has its cause, for some world
+abbrev pub IsCaused : Call → Outcome → Type 0
+IsCaused call o = (world : Config) × Caused call world o
+
+-- how a call ended that has no session: its outcome, and what was printed of it
+pub record EndsOffline (call : Call) (printed : Printed) (status : ℕ) : Type 0 where
+  pub outcome : Outcome
+  pub early : IsEarly outcome
+  pub caused : IsCaused call outcome
+  pub reports : Reports outcome status printed.before printed.after printed.failures_before printed.failures_after
 
 -- no request has arrived, and no port was made
 abbrev pub IsEmpty : Journal → ℕ → Type 0
 IsEmpty journal ports = (journal.entries ≡ []) × (ports ≡ 0)
 
 -- What a session leaves: a whole journal of seat 0 that is a legal run of the world, one port where one was made, and what
--- holds of it. Where a port could not be had, no request has arrived, and at the end each has ended.
+-- holds of it. Where a port could not be had, no request has arrived, and at the end each has ended. A world without sockets
+-- makes no port, and its session is empty.
 pub record Ran (world : Config) (maker_failed : Type 0) (o : Outcome) (journal : Journal) (ports : ℕ) (at_ports : Type 0) : Type 0 where
   pub end : IsSessionEnd o
   pub whole : journal.head ≡ Whole
@@ -167,25 +158,27 @@ pub record Ran (world : Config) (maker_failed : Type 0) (o : Outcome) (journal :
   pub unused : IsPortFault o → journal.entries ≡ []
   pub over : o ≡ outcome.Done → IsOver constant_means world journal.entries
   pub few : ports ≤ 1
-  pub one : HasPort o → ports ≡ 1
+  pub one : HasPort o → 0 < length world.sockets → ports ≡ 1
+  pub idle : world.sockets ≡ [] → (ports ≡ 0) × (journal.entries ≡ [])
   pub none : NoPortMade o → (ports ≡ 0) × maker_failed
   pub at : at_ports
 
 -- An outcome with its cause, and what it leaves: a whole journal of seat 0 that is a legal run of the world, one port where
 -- one was made, and what holds of it. An outcome without a session leaves nothing, and where a port could not be had no
--- request has arrived; where the session is done each has ended. At want of memory the world is the one that is asked for,
--- where there was a session.
+-- request has arrived; where the session is done each has ended. A world without sockets makes no port, and its session is
+-- empty. At want of memory the world is the one that is asked for, where there was a session.
 pub record Comes (call : Call) (o : Outcome) (journal : Journal) (ports : ℕ) (at_ports : Config → Type 0) : Type 0 where
   pub world : Config
   pub caused : Caused call world o
-  pub early : IsEarly o → IsEmpty journal ports ⊎ ((o ≡ outcome.NoMemory) × Asks call (Serves world))
+  pub early : IsEarly o → IsEmpty journal ports ⊎ ((o ≡ outcome.NoMemory) × Asks call (Starts verb.Serve world))
   pub whole : journal.head ≡ Whole
   pub run : legal constant_means world journal ≡ true
   pub seat : IsOfSeat 0 journal.entries
   pub unused : IsPortFault o → journal.entries ≡ []
   pub over : o ≡ outcome.Done → IsOver constant_means world journal.entries
   pub few : ports ≤ 1
-  pub one : HasPort o → ports ≡ 1
+  pub one : HasPort o → 0 < length world.sockets → ports ≡ 1
+  pub idle : world.sockets ≡ [] → (ports ≡ 0) × (journal.entries ≡ [])
   pub at : at_ports world
 
 -- how a call ended: its outcome, and what was printed of it
@@ -196,11 +189,9 @@ pub record Ends (call : Call) (printed : Printed) (status : ℕ) (journal : Jour
 
 -- the statuses that a plan allows, where no read and no print failed and memory was there: just one, but for a session
 abbrev pub status_for : Plan → ℕ → Type 0
-status_for NoCommand status = status ≡ 1
-status_for (NoFile path) status = status ≡ 5
-status_for (NoConfig fault) status = status ≡ 2
-status_for (NoScript name) status = status ≡ 3
-status_for (Serves world) status = (status ≡ 0) ⊎ (status ≡ 7)
+status_for (Refuses why) status = status ≡ refusal_status why
+status_for (Starts verb.Check world) status = status ≡ 0
+status_for (Starts verb.Serve world) status = (status ≡ 0) ⊎ (status ≡ 7)
 
 -- each status comes where its cause is, but for 5 where a read failed, 4 where the sink failed, and 9
 abbrev pub IsStatus : List (List ℕ) → Stored → Type 0 → Type 0 → ℕ → Type 0

@@ -1,16 +1,9 @@
-pub mod Command
 pub mod Form
-pub mod Script
-pub mod Config
 pub mod Head
 pub mod Stream
 pub mod Conn
 pub mod Text
-pub mod Embed
-pub mod Constant
 pub mod Outcome
-pub mod Plan
-pub mod Prepare
 pub mod Board
 pub mod Session
 pub mod Steps

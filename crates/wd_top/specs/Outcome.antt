@@ -3,35 +3,24 @@ use Rattle.std.specs.Prelude.{◌≡◌, ◌⊎◌, ℕ, List, [], ◌++◌, len
 use Rattle.std.specs.Fmt.{decimal}
 use Rattle.wd_base.specs.declared.config.Addr.{Addr}
 use Rattle.wd_base.specs.declared.ids.Seat.{Seat}
+use Rattle.wd_plan.specs.Refusal.{line_end, status_of as refusal_status, text_of as refusal_text}
 use Rattle.wd_ports.specs.Faults.{Rose}
 use Rattle.wd_ports.specs.Sink.{with_bytes}
-use Rattle.wd_top.specs.declared.config.ConfigFault.{ConfigFault}
-use Rattle.wd_top.specs.declared.config.ConfigKind.{ConfigKind}
-use Rattle.wd_top.specs.declared.config.ConfigKind.TheVariants.{LeftOut, EmbedMissing}
-use Rattle.wd_top.specs.Config.{line_end}
 use Rattle.wd_top.specs.declared.outcome.Outcome.{Outcome}
 use Rattle.wd_top.specs.declared.outcome.Outcome.TheVariants as outcome
 
 -- the exit status of an outcome
 abbrev pub status_of : Outcome → ℕ
 status_of outcome.Done = 0
-status_of outcome.CommandLine = 1
-status_of (outcome.Config fault) = 2
-status_of (outcome.Script name) = 3
-status_of (outcome.MissingFile path) = 5
-status_of (outcome.FileFault path) = 5
+status_of (outcome.Checked services sockets) = 0
+status_of (outcome.Refused why) = refusal_status why
 status_of (outcome.NoPort seat) = 7
 status_of (outcome.NoListen address) = 7
 status_of outcome.NoMemory = 9
 
--- the name of a kind of fault
-abbrev pub kind_text : ConfigKind → List ℕ
-kind_text LeftOut = codes "LeftOut"
-kind_text EmbedMissing = codes "EmbedMissing"
-
--- what is printed of a fault of the configuration: its kind, place and name
-unfoldable pub config_text : ConfigFault → List ℕ
-config_text fault = codes "error: config " ++ (kind_text fault.kind ++ codes " at ") ++ decimal fault.place ++ codes ": " ++ fault.name ++ line_end
+-- what is printed of a configuration that was checked: how many services and sockets it has
+unfoldable pub checked_text : ℕ → ℕ → List ℕ
+checked_text services sockets = codes "ok " ++ (decimal services ++ codes " ") ++ decimal sockets ++ line_end
 
 -- what is printed where a seat has no port
 unfoldable pub port_text : Seat → List ℕ
@@ -44,11 +33,8 @@ listen_text address = codes "error: listen " ++ (address.host ++ codes ":") ++ d
 -- what is printed of an outcome
 abbrev pub text_of : Outcome → List ℕ
 text_of outcome.Done = []
-text_of outcome.CommandLine = codes "error: command line" ++ line_end
-text_of (outcome.Config fault) = config_text fault
-text_of (outcome.Script name) = codes "error: script " ++ (name ++ (codes ": LeftOut form at 0" ++ line_end))
-text_of (outcome.MissingFile path) = codes "error: file " ++ (path ++ line_end)
-text_of (outcome.FileFault path) = codes "error: file " ++ (path ++ line_end)
+text_of (outcome.Checked services sockets) = checked_text services sockets
+text_of (outcome.Refused why) = refusal_text why
 text_of (outcome.NoPort seat) = port_text seat
 text_of (outcome.NoListen address) = listen_text address
 text_of outcome.NoMemory = []

@@ -1,9 +1,9 @@
-ghost use Rattle.std.specs.Prelude.{◌≡◌, ◌++◌, ◌≤◌, IfOk};
-ghost use Rattle.wd_top.specs.Outcome.{status_of, text_of, kind_text, config_text, port_text, listen_text, Reports};
+ghost use Rattle.std.specs.Prelude.{◌≡◌, IfOk};
+ghost use Rattle.wd_top.specs.Outcome.{status_of, text_of, checked_text, port_text, listen_text, Reports};
 
-use crate::config::{ConfigFault, ConfigKind};
 use std::alloc::Global;
-use wd_base::{Addr, Bytes, NoMemory, Seat};
+use wd_base::{Addr, NoMemory, Seat};
+use wd_plan::{Refusal, framed};
 use wd_ports::{Failed, Sink, print};
 
 /// How a call came out, before this is printed.
@@ -11,16 +11,11 @@ use wd_ports::{Failed, Sink, print};
 pub enum Outcome {
     /// The session is done.
     Done,
-    /// The words are no command line.
-    CommandLine,
-    /// The configuration is refused.
-    Config(ConfigFault),
-    /// The script of the service of this name is refused.
-    Script(Bytes),
-    /// There is no file of this path.
-    MissingFile(Bytes),
-    /// Reading the file of this path failed.
-    FileFault(Bytes),
+    /// The configuration was read and linked, and its scripts start: it has so many services, with
+    /// `internet`, and so many sockets.
+    Checked(u32, usize),
+    /// Nothing was served or checked.
+    Refused(Refusal),
     /// No port could be made for the seat.
     NoPort(Seat),
     /// The port could not listen at the address.
@@ -35,11 +30,8 @@ fn status_of(outcome: &Outcome) -> u8
 {
     match outcome {
         Outcome::Done => 0,
-        Outcome::CommandLine => 1,
-        Outcome::Config(_) => 2,
-        Outcome::Script(_) => 3,
-        Outcome::MissingFile(_) => 5,
-        Outcome::FileFault(_) => 5,
+        Outcome::Checked(_, _) => 0,
+        Outcome::Refused(why) => why.status(),
         Outcome::NoPort(_) => 7,
         Outcome::NoListen(_) => 7,
         Outcome::NoMemory => 9,
@@ -53,51 +45,21 @@ fn text_of(alloc: Global, outcome: &Outcome) -> Result<Vec<u8>, NoMemory>
     match outcome {
         Outcome::Done => Ok(Vec::new(alloc)),
         Outcome::NoMemory => Ok(Vec::new(alloc)),
-        Outcome::CommandLine => Ok(Vec::from_slice(alloc, b"error: command line\n")?),
-        Outcome::Config(fault) => config_text(alloc, fault),
-        Outcome::Script(name) => {
-            framed(
-                alloc,
-                b"error: script ",
-                name.as_slice(),
-                b": LeftOut form at 0\n",
-            )
-        }
-        Outcome::MissingFile(path) => framed(alloc, b"error: file ", path.as_slice(), b"\n"),
-        Outcome::FileFault(path) => framed(alloc, b"error: file ", path.as_slice(), b"\n"),
+        Outcome::Checked(services, sockets) => checked_text(alloc, *services, *sockets),
+        Outcome::Refused(why) => why.text(alloc),
         Outcome::NoPort(seat) => port_text(alloc, *seat),
         Outcome::NoListen(address) => listen_text(alloc, address),
     }
 }
 
-/// Bytes between two others.
-fn framed(alloc: Global, before: &[u8], middle: &[u8], behind: &[u8]) -> Result<Vec<u8>, NoMemory>
-    ensures { IfOk result (λ text. text.items ≡ before.now ++ (middle.now ++ behind.now)) }
+#[tactic(auto, unfolding(crate::specs::Outcome::checked_text))]
+fn checked_text(alloc: Global, services: u32, sockets: usize) -> Result<Vec<u8>, NoMemory>
+    ensures { IfOk result (λ text. text.items ≡ checked_text services sockets) }
 {
-    let mut text = Vec::from_slice(alloc, before)?;
-    text.extend_from_slice(middle)?;
-    text.extend_from_slice(behind)?;
-    Ok(text)
-}
-
-fn kind_text(kind: ConfigKind) -> &'static [u8]
-    ensures { result.now ≡ kind_text kind }
-{
-    match kind {
-        ConfigKind::LeftOut => b"LeftOut",
-        ConfigKind::EmbedMissing => b"EmbedMissing",
-    }
-}
-
-#[tactic(auto, unfolding(crate::specs::Outcome::config_text))]
-fn config_text(alloc: Global, fault: &ConfigFault) -> Result<Vec<u8>, NoMemory>
-    ensures { IfOk result (λ text. text.items ≡ config_text fault.now) }
-{
-    let place = fault.place.to_string(alloc)?;
-    let mut text = framed(alloc, b"error: config ", kind_text(fault.kind), b" at ")?;
-    text.extend_from_slice(place.as_bytes())?;
-    text.extend_from_slice(b": ")?;
-    text.extend_from_slice(fault.name.as_slice())?;
+    let services = services.to_string(alloc)?;
+    let sockets = sockets.to_string(alloc)?;
+    let mut text = framed(alloc, b"ok ", services.as_bytes(), b" ")?;
+    text.extend_from_slice(sockets.as_bytes())?;
     text.extend_from_slice(b"\n")?;
     Ok(text)
 }

@@ -79,7 +79,8 @@ fn add_port<P: Drop>(ports: &mut Vec<P>, port: P)
 }
 
 /// The session over the port that the maker gives for the one seat. The port is handed out, also
-/// where it could not listen.
+/// where it could not listen. A world without sockets makes none.
+#[tactic(auto, using(crate::proofs::EndSteps::nothing_over))]
 pub fn run_ports<R: Wait, M: Maker, I: Isolate>(
     rt: &R,
     alloc: Global,
@@ -90,7 +91,8 @@ pub fn run_ports<R: Wait, M: Maker, I: Isolate>(
     requires ports { ports.old.items ≡ [] }
     requires journal { board.old.1 ≡ [] }
     ensures ports { All (λ p. Holds board.old.0 result (M.Port.Files.told p) (M.Port.Files.gone p) (M.Port.Files.faults p) board.new.1) ports.new.items }
-    ensures one { HasPort result → length ports.new.items ≡ 1 }
+    ensures one { HasPort result → 0 < length board.old.0.sockets → length ports.new.items ≡ 1 }
+    ensures idle { board.old.0.sockets ≡ [] → (ports.new.items ≡ []) × (board.new.1 ≡ []) }
     ensures none { NoPortMade result → (ports.new.items ≡ []) × Rose (M.failures maker.old) (M.failures maker.new) }
     ensures few { length ports.new.items ≤ 1 }
     ensures over { result ≡ outcome.Done → IsOver I.means board.new.0 board.new.1 }
@@ -99,6 +101,9 @@ pub fn run_ports<R: Wait, M: Maker, I: Isolate>(
     ensures world { board.new.0 ≡ board.old.0 }
     ensures end { IsSessionEnd result }
 {
+    if board.sockets().is_empty() {
+        return Outcome::Done;
+    }
     if ports.reserve(1).is_err() {
         return Outcome::NoMemory;
     }

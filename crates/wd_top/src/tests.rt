@@ -1,12 +1,13 @@
 //! Whole calls over files, links and a sink in memory. What is expected was worked out by hand.
 
-use crate::{Ended, workerd};
+use crate::{Ended, offline, workerd};
 use std::alloc::Global;
 use std::sync::Wait;
 use std::test::Fail;
 use std::thread::Threads;
 use wd_base::{Bytes, LinkNo, NoMemory, Numbers, Origin, Seq, SockNo, Why};
 use wd_machine::{Entry, Out};
+use wd_plan::serves;
 use wd_ports::{
     Failed, MemFiles, MemMaker, MemPort, MemSink, NoGate, PortEvent, PortPlan, Sink, Timed,
 };
@@ -29,6 +30,35 @@ const HELLO: &[u8] = b"export default {
     return new Response(\"Hello World\\n\");
   }
 };
+";
+
+const UNKNOWN_SERVICE: &[u8] = b"using Workerd = import \"/workerd/workerd.capnp\";
+const config :Workerd.Config = (
+  services = [ (name = \"main\", worker = (modules = [(name = \"a\", esModule = embed \"worker.js\")])) ],
+  sockets = [ (name = \"http\", address = \"*:8080\", service = \"other\") ],
+);
+";
+
+const WITH_BINDING: &[u8] = b"using Workerd = import \"/workerd/workerd.capnp\";
+const config :Workerd.Config = (
+  services = [ (name = \"main\", worker = (
+    modules = [(name = \"a\", esModule = embed \"worker.js\")],
+    bindings = [(name = \"B\", text = \"b\")],
+  )) ],
+  sockets = [ (name = \"http\", address = \"*:8080\", service = \"main\") ],
+);
+";
+
+const TWO_CONFIGS: &[u8] = b"using Workerd = import \"/workerd/workerd.capnp\";
+const none :Workerd.Config = ();
+const two :Workerd.Config = (
+  services = [ (name = \"a\", worker = .hello), (name = \"b\", worker = .hello) ],
+  sockets = [
+    (name = \"first\", address = \"*:8080\", service = \"a\"),
+    (name = \"second\", address = \"*:8081\", service = \"b\"),
+  ],
+);
+const hello :Workerd.Worker = (modules = [(name = \"a\", esModule = embed \"worker.js\")]);
 ";
 
 const OTHER_SCRIPT: &[u8] = b"export default {};\n";
@@ -70,6 +100,8 @@ struct Around<'a> {
     gone: bool,
     /// The pieces that come on a second link, where there is one.
     second: Option<&'a [&'a [u8]]>,
+    /// The socket at which the second link comes.
+    second_socket: SockNo,
     /// The part that fails, and the number of the call that does.
     fails: Option<(Part, u64)>,
 }
@@ -82,6 +114,7 @@ fn one_link<'a>(pieces: &'a [&'a [u8]]) -> Around<'a> {
         pieces,
         gone: false,
         second: None,
+        second_socket: SockNo(0),
         fails: None,
     }
 }
@@ -133,10 +166,10 @@ fn add_file(
 
 fn plan_of(alloc: Global, around: &Around<'_>) -> Result<PortPlan, NoMemory> {
     let mut events = Seq::new(alloc);
-    add_pieces(alloc, &mut events, LinkNo(1), around.pieces)?;
+    add_pieces(alloc, &mut events, LinkNo(1), SockNo(0), around.pieces)?;
     events.push((0, last_event(around.gone)))?;
     if let Some(pieces) = around.second {
-        add_pieces(alloc, &mut events, LinkNo(2), pieces)?;
+        add_pieces(alloc, &mut events, LinkNo(2), around.second_socket, pieces)?;
         events.push((0, PortEvent::End(LinkNo(2))))?;
     }
     let fail = fails_of(alloc, around, Part::Port)?;
@@ -149,14 +182,15 @@ fn plan_of(alloc: Global, around: &Around<'_>) -> Result<PortPlan, NoMemory> {
     })
 }
 
-/// A link that comes at the first socket, with its pieces.
+/// A link that comes at a socket, with its pieces.
 fn add_pieces(
     alloc: Global,
     events: &mut Timed,
     link: LinkNo,
+    socket: SockNo,
     pieces: &[&[u8]],
 ) -> Result<(), NoMemory> {
-    events.push((0, PortEvent::Accept(SockNo(0))))?;
+    events.push((0, PortEvent::Accept(socket)))?;
     for piece in pieces {
         let piece = Seq::copy(alloc, piece)?;
         events.push((0, PortEvent::Bytes(link, piece)))?;
@@ -417,6 +451,104 @@ fn the_journal_of_one_request(rt: HostRuntime) -> Result<(), Fail> {
     Ok(())
 }
 
+/// How many requests arrived at the service of this name.
+fn arrivals_at(entries: &[Entry], name: &[u8]) -> usize {
+    entries
+        .iter()
+        .filter(|entry| match entry {
+            Entry::Arrive { service, .. } => service.as_slice() == name,
+            _ => false,
+        })
+        .count()
+}
+
+#[test]
+fn each_socket_has_its_service(rt: HostRuntime) -> Result<(), Fail> {
+    let around = Around {
+        words: &["serve", "config.capnp", "two"],
+        config: TWO_CONFIGS,
+        second: Some(&[HEAD]),
+        second_socket: SockNo(1),
+        ..one_link(&[PIPELINED])
+    };
+    let came = call(&rt, rt.alloc(), &around, None)?;
+    let (first, _) = link_of(came.ended.ports.as_slice(), 1);
+    let (second, _) = link_of(came.ended.ports.as_slice(), 2);
+    let replies = joined(rt.alloc(), &[REPLY, REPLY])?;
+    let entries = came.ended.journal.entries.as_slice();
+    assert_eq!(rt; came.ended.status, 0);
+    assert!(rt; first == replies.as_slice() && second == REPLY);
+    assert_eq!(rt; arrivals_at(entries, b"a"), 2);
+    assert_eq!(rt; arrivals_at(entries, b"b"), 1);
+    Ok(())
+}
+
+#[test]
+fn a_world_without_sockets_makes_no_port(rt: HostRuntime) -> Result<(), Fail> {
+    let around = Around {
+        words: &["serve", "config.capnp", "none"],
+        config: TWO_CONFIGS,
+        ..one_link(&[HEAD])
+    };
+    let came = call(&rt, rt.alloc(), &around, None)?;
+    assert_eq!(rt; came.ended.status, 0);
+    assert_eq!(rt; came.printed.len(), 0);
+    assert!(rt; came.ended.ports.is_empty() && came.ended.journal.entries.is_empty());
+    Ok(())
+}
+
+#[test]
+fn a_check_serves_nothing(rt: HostRuntime) -> Result<(), Fail> {
+    let cases: [(&[&str], &[u8], u8, &[u8]); 5] = [
+        (&["check", "config.capnp"], CONFIG, 0, b"ok 2 1\n"),
+        (
+            &["check", "config.capnp", "none"],
+            TWO_CONFIGS,
+            0,
+            b"ok 1 0\n",
+        ),
+        (
+            &["check", "config.capnp", "two"],
+            TWO_CONFIGS,
+            0,
+            b"ok 3 2\n",
+        ),
+        (&["check", "config.capnp"], WITH_BINDING, 0, b"ok 2 1\n"),
+        (
+            &["check", "config.capnp"],
+            TWO_CONFIGS,
+            2,
+            b"error: config SeveralConfigs at 88: two\n",
+        ),
+    ];
+    for (words, config, status, text) in cases {
+        let around = Around {
+            words,
+            config,
+            ..one_link(&[])
+        };
+        let came = call(&rt, rt.alloc(), &around, None)?;
+        assert_eq!(rt; came.ended.status, status);
+        assert!(rt; came.printed.as_slice() == text, "at status {status}");
+        assert!(rt; came.ended.ports.is_empty());
+        let offline = offline_call(rt.alloc(), &around)?;
+        assert!(rt; offline.0 == status && offline.1.as_slice() == text);
+    }
+    Ok(())
+}
+
+/// The status and the text of the call without a port.
+fn offline_call(alloc: Global, around: &Around<'_>) -> Result<(u8, Bytes), NoMemory> {
+    let words = words_of(alloc, around.words)?;
+    let mut files = files_of(alloc, around)?;
+    let mut sink = sink_of(alloc, None)?;
+    if serves(words.as_slice()) {
+        return Ok((9, sink.inner.bytes));
+    }
+    let status = offline(alloc, words.as_slice(), &mut files, &mut sink);
+    Ok((status, sink.inner.bytes))
+}
+
 #[test]
 fn ten_thousand_requests_on_one_link(rt: HostRuntime) -> Result<(), Fail> {
     let mut bytes: Bytes = Seq::new(rt.alloc());
@@ -453,12 +585,24 @@ fn words_that_are_no_command_line(rt: HostRuntime) -> Result<(), Fail> {
 
 #[test]
 fn a_refused_file_has_its_status_and_text(rt: HostRuntime) -> Result<(), Fail> {
-    let cases: [(&[u8], &[u8], u8, &[u8]); 4] = [
+    let cases: [(&[u8], &[u8], u8, &[u8]); 6] = [
         (
             OTHER_CONFIG,
             HELLO,
             2,
-            b"error: config LeftOut at 0: form\n",
+            b"error: config LeftOut at 14: type\n",
+        ),
+        (
+            UNKNOWN_SERVICE,
+            HELLO,
+            2,
+            b"error: link UnknownService http -> other\n",
+        ),
+        (
+            WITH_BINDING,
+            HELLO,
+            2,
+            b"error: config LeftOut at 0: kind\n",
         ),
         (
             CONFIG,

@@ -1,0 +1,13 @@
+pub mod Tables
+pub mod Units
+pub mod Values
+pub mod Places
+pub mod Lists
+pub mod Numbers
+pub mod Characters
+pub mod Elements
+pub mod Grammar
+pub mod Runs
+pub mod Letters
+pub mod Front
+pub mod Scan

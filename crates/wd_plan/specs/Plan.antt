@@ -1,0 +1,90 @@
+-- What the words and the files ask for.
+use Rattle.std.specs.Prelude.{◌≡◌, ◌⊎◌, ℕ, Bool, true, false, ◌&&◌, List, Option, Some, None, IfSome, codes}
+use Rattle.wd_base.specs.declared.config.Config.{Config}
+use Rattle.wd_config.specs.declared.faults.ConfigFault.{ConfigFault}
+use Rattle.wd_config.specs.declared.faults.ConfigKind.TheVariants.{LeftOut}
+use Rattle.wd_config.specs.Answer.{Answers}
+use Rattle.wd_config.specs.Reading.{Answer, Found, Refused, Untold, Read, HasEmbed}
+use Rattle.wd_graph.specs.declared.linking.GraphFault.{GraphFault}
+use Rattle.wd_graph.specs.Links.{first_unknown, linked}
+use Rattle.wd_plan.specs.declared.command.Verb.{Verb}
+use Rattle.wd_plan.specs.declared.command.Verb.TheVariants as verb
+use Rattle.wd_plan.specs.declared.refusal.Refusal.{Refusal}
+use Rattle.wd_plan.specs.declared.refusal.Refusal.TheVariants as refusal
+use Rattle.wd_plan.specs.Command.{Asked, command}
+use Rattle.wd_plan.specs.Folder.{folder}
+use Rattle.wd_plan.specs.Starts.{are_plain, are_at_workers, refused_script}
+use Rattle.wd_ports.specs.Told.{Stored, file_at}
+
+-- what a call is to do: refuse, or serve or check a world
+pub data Plan : Type 0 where
+  Refuses : Refusal → Plan
+  Starts : Verb → Config → Plan
+
+-- the fault of a configuration that has something that is not served yet
+abbrev pub other_kind : ConfigFault
+other_kind = record { kind = LeftOut; place = 0; name = codes "kind" }
+
+-- whether the verb goes on with a world, of which each service that is written out is served or is not
+abbrev pub may_go : Verb → Bool → Config → Bool
+may_go verb.Serve plain world = plain && are_at_workers world
+may_go verb.Check plain world = true
+
+-- at the scripts of a world, of which this one is the first that is not read
+abbrev pub at_scripts : Verb → Config → Option (List ℕ) → Plan
+at_scripts v world None = Starts v world
+at_scripts v world (Some name) = Refuses (refusal.Script name)
+
+-- at the kinds of its services
+abbrev pub at_kinds : Verb → Config → Bool → Plan
+at_kinds v world false = Refuses (refusal.Config other_kind)
+at_kinds v world true = at_scripts v world (refused_script world.services)
+
+-- at the names of a configuration, of which this one is the first that is unknown
+abbrev pub at_names : Verb → Config → Option GraphFault → Plan
+at_names v config (Some fault) = Refuses (refusal.Link fault)
+at_names v config None = at_kinds v (linked config) (may_go v (are_plain config.services) (linked config))
+
+-- at the configuration, or its first fault
+abbrev pub AtAnswer : Verb → Answer Config → Plan → Type 0
+AtAnswer v (Found config) plan = plan ≡ at_names v config (first_unknown (linked config))
+AtAnswer v (Refused fault) plan = plan ≡ Refuses (refusal.Config fault)
+AtAnswer v Untold plan = ⊥
+
+-- the reading of a configuration's file, for a command
+abbrev pub IsReading : Option Stored → Asked → List ℕ → Read Config → Type 0
+IsReading files asked bytes r = Answers bytes asked.constant (folder asked.config) files r
+
+-- at the configuration's file
+abbrev pub AtFile : Stored → Asked → Option (List ℕ) → Plan → Type 0
+AtFile files asked None plan = plan ≡ Refuses (refusal.MissingFile asked.config)
+AtFile files asked (Some bytes) plan = (r : Read Config) × IsReading (Some files) asked bytes r × AtAnswer asked.verb r.answer plan
+
+-- at the command
+abbrev pub AtCommand : Stored → Option Asked → Plan → Type 0
+AtCommand files None plan = plan ≡ Refuses refusal.CommandLine
+AtCommand files (Some asked) plan = AtFile files asked (file_at files asked.config) plan
+
+-- the words and the files ask for this; they ask for one plan alone
+unfoldable pub Plans : List (List ℕ) → Stored → Plan → Type 0
+Plans words files plan = AtCommand files (command words) plan
+
+-- the reading comes to an embed of this path, as it is written
+abbrev pub HasPath : Read Config → List ℕ → Type 0
+HasPath r path = (place : ℕ) × HasEmbed r (record { place = place; bytes = path })
+
+-- the reading of these bytes, for a command, comes to an embed of this path
+abbrev pub EmbedsPath : Option Stored → Asked → List ℕ → List ℕ → Type 0
+EmbedsPath files asked bytes path = (r : Read Config) × IsReading files asked bytes r × HasPath r path
+
+-- a file that is embedded in the configuration of a command
+abbrev pub IsEmbedded : Option Stored → Asked → List ℕ → Type 0
+IsEmbedded files asked path = (bytes : List ℕ) × IfSome files (λ s. file_at s asked.config ≡ Some bytes) × EmbedsPath files asked bytes path
+
+-- a file that is read for a command: its configuration, or one that this embeds
+abbrev pub IsReadFor : Option Stored → Asked → List ℕ → Type 0
+IsReadFor files asked path = (path ≡ asked.config) ⊎ IsEmbedded files asked path
+
+-- a file that is read for these words
+abbrev pub IsReadPath : List (List ℕ) → Option Stored → List ℕ → Type 0
+IsReadPath words files path = (asked : Asked) × (command words ≡ Some asked) × IsReadFor files asked path

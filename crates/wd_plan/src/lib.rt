@@ -1,0 +1,18 @@
+//! What the words of a command line and the files ask for: the command, the configuration's
+//! reading and linking, and the start of its scripts.
+#![tactic(auto)]
+
+mod command;
+mod constant;
+mod folder;
+mod ready;
+mod refusal;
+mod script;
+mod starts;
+#[cfg(test)]
+mod tests;
+
+pub use command::{Verb, serves};
+pub use constant::Constant;
+pub use ready::{PlanEnd, Ready, prepare};
+pub use refusal::{Refusal, framed};

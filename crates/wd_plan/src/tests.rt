@@ -1,0 +1,246 @@
+//! Command lines, refusals' texts, and what is ready for a configuration. What is expected was
+//! worked out by hand.
+
+use crate::{PlanEnd, Refusal, Verb, prepare, serves};
+use capnp_text::TextKind;
+use std::alloc::Global;
+use std::test::Fail;
+use wd_base::{NoMemory, Seq};
+use wd_config::{ConfigFault, ConfigKind};
+use wd_graph::GraphFault;
+use wd_ports::MemFiles;
+
+const CONFIG: &[u8] = b"using W = import \"/workerd/workerd.capnp\";
+const other :W.Config = ();
+const main :W.Config = (
+  services = [
+    (name = \"a\", worker = .hello),
+    (name = \"b\", worker = (modules = [(name = \"m\", esModule = embed \"bye.js\")])),
+  ],
+  sockets = [(name = \"http\", address = \"*:80\", service = \"a\")],
+);
+const hello :W.Worker = (modules = [(name = \"m\", esModule = embed \"hello.js\")]);
+";
+
+const HELLO: &[u8] = b"export default {
+  async fetch(request) {
+    return new Response(\"hello\\n\");
+  }
+};
+";
+
+const BYE: &[u8] = b"export default {
+  async fetch(request) {
+    return new Response(\"bye\");
+  }
+};
+";
+
+fn words_of(alloc: Global, words: &[&str]) -> Result<Vec<String>, NoMemory> {
+    let mut list = Vec::new(alloc);
+    for word in words {
+        let word = String::from_str(alloc, word)?;
+        if list.push(word).is_err() {
+            return Err(NoMemory);
+        }
+    }
+    Ok(list)
+}
+
+fn files_of(alloc: Global) -> Result<MemFiles, NoMemory> {
+    let mut files = MemFiles::new(alloc);
+    for (path, bytes) in [
+        (b"etc/config.capnp".as_slice(), CONFIG),
+        (b"etc/hello.js".as_slice(), HELLO),
+        (b"etc/bye.js".as_slice(), BYE),
+    ] {
+        let path = Seq::copy(alloc, path)?;
+        files.files.push((path, Seq::copy(alloc, bytes)?))?;
+    }
+    Ok(files)
+}
+
+/// The words come to a plan or to a refusal, and not to want of memory.
+fn is_line(alloc: Global, words: &[String]) -> Result<bool, NoMemory> {
+    let mut files = MemFiles::new(alloc);
+    match prepare(alloc, words, &mut files) {
+        Ok(_) => Ok(true),
+        Err(PlanEnd::Refused(Refusal::CommandLine)) => Ok(false),
+        Err(PlanEnd::Refused(_)) => Ok(true),
+        Err(PlanEnd::NoMemory) => Err(NoMemory),
+    }
+}
+
+#[test]
+fn command_lines(rt: HostRuntime) -> Result<(), Fail> {
+    // the words, whether they are a command line, and whether they ask to serve
+    let cases: [(&[&str], bool, bool); 16] = [
+        (&[], false, false),
+        (&["serve"], false, false),
+        (&["serve", "c"], true, true),
+        (&["serve", "c", "main"], true, true),
+        (&["serve", "c", "--threads", "1"], true, true),
+        (&["serve", "c", "main", "--threads", "1"], true, true),
+        (&["serve", "c", "--threads", "2"], false, false),
+        (&["serve", "c", "--threads"], false, false),
+        (&["serve", "-c"], false, false),
+        (&["serve", "-"], true, true),
+        (&["serve", "c", "-n"], false, false),
+        (&["check", "c"], true, false),
+        (&["check", "c", "main"], true, false),
+        (&["check", "c", "--threads", "1"], false, false),
+        (&["check", "c", "main", "more"], false, false),
+        (&["Serve", "c"], false, false),
+    ];
+    for (words, is_command, asks_to_serve) in cases {
+        let list = words_of(rt.alloc(), words)?;
+        let found = is_line(rt.alloc(), list.as_slice())?;
+        assert!(rt; found == is_command, "{words:?}");
+        assert!(rt; serves(list.as_slice()) == asks_to_serve, "{words:?}");
+    }
+    Ok(())
+}
+
+fn config_fault(alloc: Global, kind: ConfigKind) -> Result<Refusal, NoMemory> {
+    let name = Seq::copy(alloc, b"name")?;
+    Ok(Refusal::Config(ConfigFault {
+        kind,
+        place: 120,
+        name,
+    }))
+}
+
+#[test]
+fn each_kind_of_fault_has_its_text(rt: HostRuntime) -> Result<(), Fail> {
+    let cases: [(ConfigKind, &[u8]); 18] = [
+        (
+            ConfigKind::Text(TextKind::BadByte),
+            b"error: config BadByte at 120: name\n",
+        ),
+        (
+            ConfigKind::Text(TextKind::BadToken),
+            b"error: config BadToken at 120: name\n",
+        ),
+        (
+            ConfigKind::Text(TextKind::Unclosed),
+            b"error: config Unclosed at 120: name\n",
+        ),
+        (
+            ConfigKind::Text(TextKind::BadDecl),
+            b"error: config BadDecl at 120: name\n",
+        ),
+        (
+            ConfigKind::Text(TextKind::TooDeep),
+            b"error: config TooDeep at 120: name\n",
+        ),
+        (
+            ConfigKind::NoSuchConst,
+            b"error: config NoSuchConst at 120: name\n",
+        ),
+        (
+            ConfigKind::SeveralConfigs,
+            b"error: config SeveralConfigs at 120: name\n",
+        ),
+        (
+            ConfigKind::ConstLoop,
+            b"error: config ConstLoop at 120: name\n",
+        ),
+        (
+            ConfigKind::UnknownField,
+            b"error: config UnknownField at 120: name\n",
+        ),
+        (
+            ConfigKind::WrongKind,
+            b"error: config WrongKind at 120: name\n",
+        ),
+        (ConfigKind::LeftOut, b"error: config LeftOut at 120: name\n"),
+        (
+            ConfigKind::DoubleName,
+            b"error: config DoubleName at 120: name\n",
+        ),
+        (
+            ConfigKind::EmbedFault,
+            b"error: config EmbedFault at 120: name\n",
+        ),
+        (
+            ConfigKind::EmbedMissing,
+            b"error: config EmbedMissing at 120: name\n",
+        ),
+        (ConfigKind::BadJson, b"error: config BadJson at 120: name\n"),
+        (
+            ConfigKind::BadAddress,
+            b"error: config BadAddress at 120: name\n",
+        ),
+        (
+            ConfigKind::BadRange,
+            b"error: config BadRange at 120: name\n",
+        ),
+        (
+            ConfigKind::NoScript,
+            b"error: config NoScript at 120: name\n",
+        ),
+    ];
+    for (kind, text) in cases {
+        let refusal = config_fault(rt.alloc(), kind)?;
+        assert!(rt; refusal.text(rt.alloc())?.as_slice() == text);
+        assert_eq!(rt; refusal.status(), 2);
+    }
+    Ok(())
+}
+
+#[test]
+fn each_refusal_has_its_text(rt: HostRuntime) -> Result<(), Fail> {
+    let alloc = rt.alloc();
+    let link = GraphFault {
+        from: Seq::copy(alloc, b"front")?,
+        name: Seq::copy(alloc, b"back")?,
+    };
+    let cases: [(Refusal, u8, &[u8]); 5] = [
+        (Refusal::CommandLine, 1, b"error: command line\n"),
+        (
+            Refusal::MissingFile(Seq::copy(alloc, b"a/b")?),
+            5,
+            b"error: file a/b\n",
+        ),
+        (
+            Refusal::FileFault(Seq::copy(alloc, b"c.js")?),
+            5,
+            b"error: file c.js\n",
+        ),
+        (
+            Refusal::Link(link),
+            2,
+            b"error: link UnknownService front -> back\n",
+        ),
+        (
+            Refusal::Script(Seq::copy(alloc, b"main")?),
+            3,
+            b"error: script main: LeftOut form at 0\n",
+        ),
+    ];
+    for (refusal, status, text) in &cases {
+        assert_eq!(rt; refusal.status(), *status);
+        assert!(rt;
+            refusal.text(alloc)?.as_slice() == *text,
+            "at status {status}"
+        );
+    }
+    Ok(())
+}
+
+#[test]
+fn what_is_ready(rt: HostRuntime) -> Result<(), Fail> {
+    let mut files = files_of(rt.alloc())?;
+    let words = words_of(rt.alloc(), &["serve", "etc/config.capnp", "main"])?;
+    let Ok(ready) = prepare(rt.alloc(), words.as_slice(), &mut files) else {
+        return Err(Fail::new("nothing is ready"));
+    };
+    assert!(rt; ready.verb == Verb::Serve);
+    assert_eq!(rt; ready.world.count(), 3);
+    let [hello, bye] = ready.isolates.as_slice() else {
+        return Err(Fail::new("nothing is ready"));
+    };
+    assert!(rt; hello.text.as_slice() == b"hello\n".as_slice());
+    assert!(rt; bye.text.as_slice() == b"bye".as_slice());
+    Ok(())
+}

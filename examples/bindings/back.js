@@ -1,0 +1,5 @@
+export default {
+  async fetch(request) {
+    return new Response("back\n");
+  }
+};
