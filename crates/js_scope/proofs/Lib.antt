@@ -1,0 +1,9 @@
+mod Back
+mod NameLemmas
+mod Equations
+mod Judge
+mod SplitLaws
+mod Splits
+mod ListSplits
+mod StmtSplits
+mod WalkLaws

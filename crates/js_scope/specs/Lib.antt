@@ -1,0 +1,3 @@
+pub mod Early
+pub mod Names
+pub mod Verdict

@@ -1,0 +1,123 @@
+-- The fault that a walk of a script comes to.
+use Rattle.std.specs.Prelude.{◌≡◌, Bool, true, false, List, [], ◌∷◌, map, Option, Some, None, Result, Ok, Err, if◌then◌else◌}
+use Rattle.js_tree.specs.declared.tree.Name.{Name}
+use Rattle.js_scope.specs.declared.fault.EarlyEnd.{EarlyEnd}
+use Rattle.js_scope.specs.declared.fault.EarlyEnd.TheVariants.{Fault, NoMemory}
+use Rattle.js_scope.specs.declared.fault.EarlyFault.{EarlyFault}
+use Rattle.js_scope.specs.declared.fault.EarlyKind.{EarlyKind}
+use Rattle.js_scope.specs.declared.fault.EarlyKind.TheVariants.{DoubleName, ReturnOutside, AwaitOutside, BreakOutside}
+use Rattle.js_scope.specs.declared.scope.Around.{Around}
+use Rattle.js_scope.specs.declared.scope.Scope.{Scope}
+use Rattle.js_scope.specs.declared.task.How.{How}
+use Rattle.js_scope.specs.declared.task.How.TheVariants as how
+use Rattle.js_scope.specs.declared.task.Piece.{Piece}
+use Rattle.js_scope.specs.declared.task.Piece.TheVariants as piece
+use Rattle.js_scope.specs.declared.task.Task.{Task}
+use Rattle.js_scope.specs.declared.task.Task.TheVariants as task
+use Rattle.js_scope.specs.Early.{Mark, Marks, Declares, Unless, Faulty, fault, concat, declares, scope, loop_body, function, of_expr, of_property, of_stmt, of_declaration, of_template}
+use Rattle.js_scope.specs.Names.{has, with_name}
+
+-- ---- a scope as it stands
+
+abbrev pub allows : Around → EarlyKind → Bool
+allows a DoubleName = false
+allows a ReturnOutside = a.in_function
+allows a AwaitOutside = a.is_async
+allows a BreakOutside = a.in_loop
+
+abbrev pub around_in : How → Around → Around
+around_in how.Block a = a
+around_in how.Loop a = record { in_function = a.in_function; is_async = a.is_async; in_loop = true }
+around_in (how.Function is_async) a = record { in_function = true; is_async = is_async; in_loop = false }
+
+abbrev pub entered : How → Scope → Scope
+entered h s = record { names = []; around = around_in h s.around }
+
+abbrev pub nothing_around : Around
+nothing_around = record { in_function = false; is_async = false; in_loop = false }
+
+abbrev pub top_scope : Scope
+top_scope = record { names = []; around = nothing_around }
+
+abbrev pub judge_name : Scope → Name → Result Scope EarlyFault
+judge_name s n = if has n.units s.names then Err (fault DoubleName n.place) else Ok (record { names = with_name s.names n.units; around = s.around })
+
+abbrev pub judge_word : Scope → EarlyFault → Result Scope EarlyFault
+judge_word s f = if allows s.around f.kind then Ok s else Err f
+
+-- this answer is the one that was judged, and leaves this scope
+abbrev pub Judges : Result Scope EarlyFault → Scope → Result Unit EarlyEnd → Type 0
+Judges judged new (Ok done) = judged ≡ Ok new
+Judges judged new (Err (Fault f)) = judged ≡ Err f
+Judges judged new (Err NoMemory) = Unit {0}
+
+abbrev pub judge_mark : Scope → Mark → Result Scope EarlyFault
+judge_mark s (Declares n) = judge_name s n
+judge_mark s (Unless f) = judge_word s f
+judge_mark s (Faulty f) = Err f
+
+abbrev pub and_then : Result Scope EarlyFault → (Scope → Result Scope EarlyFault) → Result Scope EarlyFault
+and_then (Ok s) next = next s
+and_then (Err f) next = Err f
+
+-- a scope behind these marks, or the first fault
+abbrev pub judge : Scope → Marks → Result Scope EarlyFault
+judge s [] = Ok s
+judge s (m ∷ ms) = and_then (judge_mark s m) (λ t. judge t ms)
+
+-- ---- what is still to do
+
+-- what is seen of these marks from outside of the scope that they stand in
+abbrev pub inside : How → Marks → Marks
+inside how.Block ms = scope ms
+inside how.Loop ms = loop_body ms
+inside (how.Function is_async) ms = function is_async (scope ms)
+
+abbrev pub piece_marks : Piece → Marks
+piece_marks (piece.Declares n) = Declares n.now ∷ []
+piece_marks (piece.Names ns) = declares ns.now
+piece_marks (piece.Word f) = Unless f ∷ []
+piece_marks (piece.Expr e) = of_expr e.now
+piece_marks (piece.Exprs es) = concat (map of_expr es.now)
+piece_marks (piece.TemplateItems is) = concat (map of_template is.now)
+piece_marks (piece.Properties ps) = concat (map of_property ps.now)
+piece_marks (piece.Declarations ds) = concat (map of_declaration ds.now)
+piece_marks (piece.Stmt s) = of_stmt s.now
+piece_marks (piece.Stmts ss) = concat (map of_stmt ss.now)
+
+abbrev pub settle : Result Scope EarlyFault → (Scope → Option EarlyFault) → Option EarlyFault
+settle (Ok s) next = next s
+settle (Err f) next = Some f
+
+abbrev pub leave : Scope → List Scope → (Scope → List Scope → Option EarlyFault) → Option EarlyFault
+leave s [] next = next s []
+leave s (o ∷ outer) next = next o outer
+
+abbrev pub perform : Task → Scope → List Scope → (Scope → List Scope → Option EarlyFault) → Option EarlyFault
+perform (task.Enter h) s outer next = next (entered h s) (s ∷ outer)
+perform task.Leave s outer next = leave s outer next
+perform (task.Piece p) s outer next = settle (judge s (piece_marks p)) (λ t. next t outer)
+
+-- the fault that the tasks come to from a scope and those around it
+abbrev pub verdict : List Task → Scope → List Scope → Option EarlyFault
+verdict [] s outer = None
+verdict (t ∷ ts) s outer = perform t s outer (λ t' o'. verdict ts t' o')
+
+-- the new tasks are the old ones behind these marks
+pub record IsSplit (old : List Task) (ms : Marks) (new : List Task) : Type 0 where
+  pub same : (s : Scope) (outer : List Scope) → verdict new s outer ≡ settle (judge s ms) (λ t. verdict old t outer)
+
+-- this answer goes on with the fault that was come to before, or is it
+abbrev pub Goes : Option EarlyFault → Option EarlyFault → Result Unit EarlyEnd → Type 0
+Goes before after (Ok done) = before ≡ after
+Goes before after (Err (Fault f)) = before ≡ Some f
+Goes before after (Err NoMemory) = Unit {0}
+
+-- this answer is the fault that is come to
+abbrev pub Comes : Option EarlyFault → Result Unit EarlyEnd → Type 0
+Comes found answer = Goes found None answer
+
+-- the same answer
+abbrev pub answered : {E : Type 0} → Result Unit E → Result Unit EarlyEnd
+answered (Ok done) = Ok done
+answered (Err e) = Err NoMemory

@@ -1,0 +1,196 @@
+ghost use Rattle.std.specs.Prelude.{◌∷◌, ◌++◌, map, option_map, OnOk};
+ghost use Rattle.js_scope.specs.Early as early;
+ghost use Rattle.js_scope.specs.Verdict.{IsSplit, inside};
+
+use crate::fault::EarlyKind;
+use crate::lists::put_optional;
+use crate::split::{put, put_function, put_word};
+use crate::stack::Stack;
+use crate::task::{How, Piece, Task};
+use js_tree::{Catch, Expr, ForBegin, Name, Stmt};
+use sqlite_items::Boxed;
+use wd_base::{NoMemory, Seq};
+
+/// Puts statements on the tasks that stand in a scope of their own.
+#[tactic(auto, using(crate::proofs::Splits::on_inside))]
+fn put_block<'a>(tasks: &mut Stack<Task<'a>>, how: How, stmts: &'a [Stmt]) -> Result<(), NoMemory>
+    ensures { OnOk result (IsSplit tasks.old (inside how (early.concat (map early.of_stmt stmts.now))) tasks.new) }
+{
+    tasks.push(Task::Leave)?;
+    put(tasks, Piece::Stmts(stmts))?;
+    tasks.push(Task::Enter(how))
+}
+
+/// Puts a statement on the tasks that stands in a scope of its own.
+#[tactic(auto, using(crate::proofs::Splits::on_inside))]
+fn put_body<'a>(tasks: &mut Stack<Task<'a>>, how: How, stmt: &'a Stmt) -> Result<(), NoMemory>
+    ensures { OnOk result (IsSplit tasks.old (inside how (early.of_stmt stmt.now)) tasks.new) }
+{
+    tasks.push(Task::Leave)?;
+    put(tasks, Piece::Stmt(stmt))?;
+    tasks.push(Task::Enter(how))
+}
+
+/// Puts what stands behind `else` on the tasks.
+#[tactic(auto, using(crate::proofs::StmtSplits::elses))]
+fn put_else<'a>(tasks: &mut Stack<Task<'a>>, stmt: &'a Option<Boxed<Stmt>>) -> Result<(), NoMemory>
+    ensures { OnOk result (IsSplit tasks.old (early.else_of (option_map early.of_stmt stmt.now)) tasks.new) }
+{
+    match stmt {
+        None => Ok(()),
+        Some(stmt) => put_body(tasks, How::Block, stmt.get()),
+    }
+}
+
+/// Puts what a `for` begins with on the tasks.
+#[tactic(auto, using(crate::proofs::StmtSplits::begins))]
+fn put_begin<'a>(tasks: &mut Stack<Task<'a>>, begin: &'a ForBegin) -> Result<(), NoMemory>
+    ensures { OnOk result (IsSplit tasks.old (early.of_begin begin.now) tasks.new) }
+{
+    match begin {
+        ForBegin::Nothing => Ok(()),
+        ForBegin::Declarations(_, declarations) => {
+            put(tasks, Piece::Declarations(declarations.as_slice()))
+        }
+        ForBegin::Start(expr) => put(tasks, Piece::Expr(expr)),
+    }
+}
+
+/// Puts a `for` on the tasks.
+#[tactic(auto, using(crate::proofs::StmtSplits::on_for))]
+fn put_for<'a>(
+    tasks: &mut Stack<Task<'a>>,
+    begin: &'a ForBegin,
+    test: &'a Option<Expr>,
+    update: &'a Option<Expr>,
+    body: &'a Stmt,
+) -> Result<(), NoMemory>
+    ensures { OnOk result (IsSplit tasks.old (early.scope (early.of_begin begin.now ++ early.optional (option_map early.of_expr test.now) ++ early.optional (option_map early.of_expr update.now) ++ early.loop_body (early.of_stmt body.now))) tasks.new) }
+{
+    tasks.push(Task::Leave)?;
+    put_body(tasks, How::Loop, body)?;
+    put_optional(tasks, update)?;
+    put_optional(tasks, test)?;
+    put_begin(tasks, begin)?;
+    tasks.push(Task::Enter(How::Block))
+}
+
+/// Puts a `for` of `of` on the tasks.
+#[tactic(auto, using(crate::proofs::StmtSplits::on_for_of))]
+fn put_for_of<'a>(
+    tasks: &mut Stack<Task<'a>>,
+    name: &'a Name,
+    value: &'a Expr,
+    body: &'a Stmt,
+) -> Result<(), NoMemory>
+    ensures { OnOk result (IsSplit tasks.old (early.scope (early.Declares name.now ∷ early.of_expr value.now ++ early.loop_body (early.of_stmt body.now))) tasks.new) }
+{
+    tasks.push(Task::Leave)?;
+    put_body(tasks, How::Loop, body)?;
+    put(tasks, Piece::Expr(value))?;
+    put(tasks, Piece::Declares(name))?;
+    tasks.push(Task::Enter(How::Block))
+}
+
+/// Puts a declared name on the tasks, where there is one.
+#[tactic(auto, using(crate::proofs::StmtSplits::names))]
+fn put_name<'a>(tasks: &mut Stack<Task<'a>>, name: &'a Option<Name>) -> Result<(), NoMemory>
+    ensures { OnOk result (IsSplit tasks.old (early.named name.now) tasks.new) }
+{
+    match name {
+        None => Ok(()),
+        Some(name) => put(tasks, Piece::Declares(name)),
+    }
+}
+
+/// Puts a `catch` on the tasks.
+#[tactic(auto, using(crate::proofs::StmtSplits::on_catch))]
+fn put_caught<'a>(tasks: &mut Stack<Task<'a>>, catch: &'a Catch) -> Result<(), NoMemory>
+    ensures { OnOk result (IsSplit tasks.old (early.of_catch catch.now) tasks.new) }
+{
+    tasks.push(Task::Leave)?;
+    put(tasks, Piece::Stmts(catch.body.as_slice()))?;
+    put_name(tasks, &catch.name)?;
+    tasks.push(Task::Enter(How::Block))
+}
+
+/// Puts a `catch` on the tasks, where there is one.
+#[tactic(auto, using(crate::proofs::StmtSplits::catches))]
+fn put_catch<'a>(tasks: &mut Stack<Task<'a>>, catch: &'a Option<Catch>) -> Result<(), NoMemory>
+    ensures { OnOk result (IsSplit tasks.old (early.optional (option_map early.of_catch catch.now)) tasks.new) }
+{
+    match catch {
+        None => Ok(()),
+        Some(catch) => put_caught(tasks, catch),
+    }
+}
+
+/// Puts the block of a `finally` on the tasks, where there is one.
+#[tactic(auto, using(crate::proofs::StmtSplits::finallies))]
+fn put_finally<'a>(
+    tasks: &mut Stack<Task<'a>>,
+    stmts: &'a Option<Seq<Stmt>>,
+) -> Result<(), NoMemory>
+    ensures { OnOk result (IsSplit tasks.old (early.finally_of (option_map (map early.of_stmt) stmts.now)) tasks.new) }
+{
+    match stmts {
+        None => Ok(()),
+        Some(stmts) => put_block(tasks, How::Block, stmts.as_slice()),
+    }
+}
+
+/// Puts the parts of a statement on the tasks.
+#[tactic(auto, using(crate::proofs::StmtSplits::stmts))]
+pub(crate) fn split_stmt<'a>(tasks: &mut Stack<Task<'a>>, stmt: &'a Stmt) -> Result<(), NoMemory>
+    ensures { OnOk result (IsSplit tasks.old (early.of_stmt stmt.now) tasks.new) }
+{
+    match stmt {
+        Stmt::Declare(_, declarations) => {
+            put(tasks, Piece::Declarations(declarations.as_slice()))
+        }
+        Stmt::DeclareFunction(name, function) => {
+            put_function(tasks, function)?;
+            put(tasks, Piece::Declares(name))
+        }
+        Stmt::Block(stmts) => put_block(tasks, How::Block, stmts.as_slice()),
+        Stmt::If(test, yes, no) => {
+            put_else(tasks, no)?;
+            put_body(tasks, How::Block, yes.get())?;
+            put(tasks, Piece::Expr(test))
+        }
+        Stmt::For {
+            begin,
+            test,
+            update,
+            body,
+        } => put_for(tasks, begin, test, update, body.get()),
+        Stmt::ForOf {
+            name,
+            value,
+            body,
+            ..
+        } => put_for_of(tasks, name, value, body.get()),
+        Stmt::While(test, body) => {
+            put_body(tasks, How::Loop, body.get())?;
+            put(tasks, Piece::Expr(test))
+        }
+        Stmt::Break(place) => put_word(tasks, EarlyKind::BreakOutside, *place),
+        Stmt::Continue(place) => put_word(tasks, EarlyKind::BreakOutside, *place),
+        Stmt::Return(place, value) => {
+            put_optional(tasks, value)?;
+            put_word(tasks, EarlyKind::ReturnOutside, *place)
+        }
+        Stmt::Throw(value) => put(tasks, Piece::Expr(value)),
+        Stmt::Try {
+            body,
+            catch,
+            finally,
+        } => {
+            put_finally(tasks, finally)?;
+            put_catch(tasks, catch)?;
+            put_block(tasks, How::Block, body.as_slice())
+        }
+        Stmt::Empty => Ok(()),
+        Stmt::Expr(expr) => put(tasks, Piece::Expr(expr)),
+    }
+}
