@@ -1,6 +1,7 @@
 mod Back
 mod NameLemmas
 mod Equations
+mod Weights
 mod Judge
 mod SplitLaws
 mod Splits

@@ -1,3 +1,4 @@
 pub mod Early
 pub mod Names
+pub mod Weight
 pub mod Verdict

@@ -1,5 +1,5 @@
 -- The fault that a walk of a script comes to.
-use Rattle.std.specs.Prelude.{◌≡◌, Bool, true, false, List, [], ◌∷◌, map, Option, Some, None, Result, Ok, Err, if◌then◌else◌}
+use Rattle.std.specs.Prelude.{ℕ, ◌≡◌, ◌≤◌, ◌+◌, Bool, true, false, List, [], ◌∷◌, map, Option, Some, None, Result, Ok, Err, if◌then◌else◌}
 use Rattle.js_tree.specs.declared.tree.Name.{Name}
 use Rattle.js_scope.specs.declared.fault.EarlyEnd.{EarlyEnd}
 use Rattle.js_scope.specs.declared.fault.EarlyEnd.TheVariants.{Fault, NoMemory}
@@ -16,6 +16,7 @@ use Rattle.js_scope.specs.declared.task.Task.{Task}
 use Rattle.js_scope.specs.declared.task.Task.TheVariants as task
 use Rattle.js_scope.specs.Early.{Mark, Marks, Declares, Unless, Faulty, fault, concat, declares, scope, loop_body, function, of_expr, of_property, of_stmt, of_declaration, of_template}
 use Rattle.js_scope.specs.Names.{has, with_name}
+use Rattle.js_scope.specs.Weight as weight
 
 -- ---- a scope as it stands
 
@@ -103,9 +104,34 @@ abbrev pub verdict : List Task → Scope → List Scope → Option EarlyFault
 verdict [] s outer = None
 verdict (t ∷ ts) s outer = perform t s outer (λ t' o'. verdict ts t' o')
 
--- the new tasks are the old ones behind these marks
-pub record IsSplit (old : List Task) (ms : Marks) (new : List Task) : Type 0 where
+-- ---- what tasks weigh
+
+abbrev pub piece_weight : Piece → ℕ
+piece_weight (piece.Declares n) = 0
+piece_weight (piece.Names ns) = weight.names ns.now
+piece_weight (piece.Word f) = 0
+piece_weight (piece.Expr e) = weight.of_expr e.now
+piece_weight (piece.Exprs es) = weight.parts (map weight.of_expr es.now)
+piece_weight (piece.TemplateItems is) = weight.parts (map weight.of_template is.now)
+piece_weight (piece.Properties ps) = weight.parts (map weight.of_property ps.now)
+piece_weight (piece.Declarations ds) = weight.parts (map weight.of_declaration ds.now)
+piece_weight (piece.Stmt s) = weight.of_stmt s.now
+piece_weight (piece.Stmts ss) = weight.parts (map weight.of_stmt ss.now)
+
+abbrev pub task_weight : Task → ℕ
+task_weight (task.Enter h) = 1
+task_weight task.Leave = 1
+task_weight (task.Piece p) = 1 + piece_weight p
+
+-- the weight of all tasks, which each step takes down
+abbrev pub total : List Task → ℕ
+total [] = 0
+total (t ∷ ts) = task_weight t + total ts
+
+-- the new tasks are the old ones behind these marks, and at most so much heavier
+pub record IsSplit (old : List Task) (ms : Marks) (n : ℕ) (new : List Task) : Type 0 where
   pub same : (s : Scope) (outer : List Scope) → verdict new s outer ≡ settle (judge s ms) (λ t. verdict old t outer)
+  pub heavier : total new ≤ n + total old
 
 -- this answer goes on with the fault that was come to before, or is it
 abbrev pub Goes : Option EarlyFault → Option EarlyFault → Result Unit EarlyEnd → Type 0

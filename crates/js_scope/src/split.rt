@@ -1,6 +1,7 @@
-ghost use Rattle.std.specs.Prelude.{[], ◌∷◌, OnOk};
+ghost use Rattle.std.specs.Prelude.{◌+◌, [], ◌∷◌, OnOk};
 ghost use Rattle.js_scope.specs.Early as early;
-ghost use Rattle.js_scope.specs.Verdict.{IsSplit, piece_marks};
+ghost use Rattle.js_scope.specs.Weight as weight;
+ghost use Rattle.js_scope.specs.Verdict.{IsSplit, piece_marks, piece_weight};
 
 use crate::fault::{EarlyFault, EarlyKind};
 use crate::stack::Stack;
@@ -11,7 +12,7 @@ use wd_base::NoMemory;
 /// Puts a piece on the tasks.
 #[tactic(auto, using(crate::proofs::Splits::on_piece))]
 pub(crate) fn put<'a>(tasks: &mut Stack<Task<'a>>, piece: Piece<'a>) -> Result<(), NoMemory>
-    ensures { OnOk result (IsSplit tasks.old (piece_marks piece.entry) tasks.new) }
+    ensures { OnOk result (IsSplit tasks.old (piece_marks piece.entry) (1 + piece_weight piece.entry) tasks.new) }
 {
     tasks.push(Task::Piece(piece))
 }
@@ -22,7 +23,7 @@ pub(crate) fn put_word<'a>(
     kind: EarlyKind,
     place: usize,
 ) -> Result<(), NoMemory>
-    ensures { OnOk result (IsSplit tasks.old (early.word kind place ∷ []) tasks.new) }
+    ensures { OnOk result (IsSplit tasks.old (early.word kind place ∷ []) 1 tasks.new) }
 {
     put(tasks, Piece::Word(EarlyFault { kind, place }))
 }
@@ -30,7 +31,7 @@ pub(crate) fn put_word<'a>(
 /// Puts a target on the tasks.
 #[tactic(auto, using(crate::proofs::Splits::targets))]
 fn put_target<'a>(tasks: &mut Stack<Task<'a>>, target: &'a Target) -> Result<(), NoMemory>
-    ensures { OnOk result (IsSplit tasks.old (early.of_target target.now) tasks.new) }
+    ensures { OnOk result (IsSplit tasks.old (early.of_target target.now) (weight.of_target target.now) tasks.new) }
 {
     match target {
         Target::Variable(_) => Ok(()),
@@ -48,7 +49,7 @@ pub(crate) fn put_function<'a>(
     tasks: &mut Stack<Task<'a>>,
     function: &'a Function,
 ) -> Result<(), NoMemory>
-    ensures { OnOk result (IsSplit tasks.old (early.of_function function.now) tasks.new) }
+    ensures { OnOk result (IsSplit tasks.old (early.of_function function.now) (weight.of_function function.now) tasks.new) }
 {
     tasks.push(Task::Leave)?;
     put(tasks, Piece::Stmts(function.body.as_slice()))?;
@@ -59,7 +60,7 @@ pub(crate) fn put_function<'a>(
 /// Puts the body of an arrow on the tasks.
 #[tactic(auto, using(crate::proofs::Splits::arrow_bodies))]
 fn put_arrow_body<'a>(tasks: &mut Stack<Task<'a>>, body: &'a ArrowBody) -> Result<(), NoMemory>
-    ensures { OnOk result (IsSplit tasks.old (early.of_arrow body.now) tasks.new) }
+    ensures { OnOk result (IsSplit tasks.old (early.of_arrow body.now) (weight.of_arrow body.now) tasks.new) }
 {
     match body {
         ArrowBody::Statements(stmts) => put(tasks, Piece::Stmts(stmts.as_slice())),
@@ -74,7 +75,7 @@ fn put_arrow<'a>(
     parameters: &'a [Name],
     body: &'a ArrowBody,
 ) -> Result<(), NoMemory>
-    ensures { OnOk result (IsSplit tasks.old (early.function_of is_async parameters.now (early.of_arrow body.now)) tasks.new) }
+    ensures { OnOk result (IsSplit tasks.old (early.function_of is_async parameters.now (early.of_arrow body.now)) (weight.part (weight.names parameters.now) + weight.of_arrow body.now) tasks.new) }
 {
     tasks.push(Task::Leave)?;
     put_arrow_body(tasks, body)?;
@@ -85,7 +86,7 @@ fn put_arrow<'a>(
 /// Puts the parts of an expression on the tasks.
 #[tactic(auto, using(crate::proofs::Splits::exprs))]
 pub(crate) fn split_expr<'a>(tasks: &mut Stack<Task<'a>>, expr: &'a Expr) -> Result<(), NoMemory>
-    ensures { OnOk result (IsSplit tasks.old (early.of_expr expr.now) tasks.new) }
+    ensures { OnOk result (IsSplit tasks.old (early.of_expr expr.now) (weight.of_expr expr.now) tasks.new) }
 {
     match expr {
         Expr::Name(_) => Ok(()),

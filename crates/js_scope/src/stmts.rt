@@ -1,5 +1,6 @@
-ghost use Rattle.std.specs.Prelude.{◌∷◌, ◌++◌, map, option_map, OnOk};
+ghost use Rattle.std.specs.Prelude.{◌+◌, ◌∷◌, ◌++◌, map, option_map, OnOk};
 ghost use Rattle.js_scope.specs.Early as early;
+ghost use Rattle.js_scope.specs.Weight as weight;
 ghost use Rattle.js_scope.specs.Verdict.{IsSplit, inside};
 
 use crate::fault::EarlyKind;
@@ -12,9 +13,9 @@ use sqlite_items::Boxed;
 use wd_base::{NoMemory, Seq};
 
 /// Puts statements on the tasks that stand in a scope of their own.
-#[tactic(auto, using(crate::proofs::Splits::on_inside))]
+#[tactic(auto, using(crate::proofs::Splits::on_block))]
 fn put_block<'a>(tasks: &mut Stack<Task<'a>>, how: How, stmts: &'a [Stmt]) -> Result<(), NoMemory>
-    ensures { OnOk result (IsSplit tasks.old (inside how (early.concat (map early.of_stmt stmts.now))) tasks.new) }
+    ensures { OnOk result (IsSplit tasks.old (inside how (early.concat (map early.of_stmt stmts.now))) (weight.part (weight.parts (map weight.of_stmt stmts.now))) tasks.new) }
 {
     tasks.push(Task::Leave)?;
     put(tasks, Piece::Stmts(stmts))?;
@@ -22,9 +23,9 @@ fn put_block<'a>(tasks: &mut Stack<Task<'a>>, how: How, stmts: &'a [Stmt]) -> Re
 }
 
 /// Puts a statement on the tasks that stands in a scope of its own.
-#[tactic(auto, using(crate::proofs::Splits::on_inside))]
+#[tactic(auto, using(crate::proofs::Splits::on_body))]
 fn put_body<'a>(tasks: &mut Stack<Task<'a>>, how: How, stmt: &'a Stmt) -> Result<(), NoMemory>
-    ensures { OnOk result (IsSplit tasks.old (inside how (early.of_stmt stmt.now)) tasks.new) }
+    ensures { OnOk result (IsSplit tasks.old (inside how (early.of_stmt stmt.now)) (weight.part (weight.of_stmt stmt.now)) tasks.new) }
 {
     tasks.push(Task::Leave)?;
     put(tasks, Piece::Stmt(stmt))?;
@@ -34,7 +35,7 @@ fn put_body<'a>(tasks: &mut Stack<Task<'a>>, how: How, stmt: &'a Stmt) -> Result
 /// Puts what stands behind `else` on the tasks.
 #[tactic(auto, using(crate::proofs::StmtSplits::elses))]
 fn put_else<'a>(tasks: &mut Stack<Task<'a>>, stmt: &'a Option<Boxed<Stmt>>) -> Result<(), NoMemory>
-    ensures { OnOk result (IsSplit tasks.old (early.else_of (option_map early.of_stmt stmt.now)) tasks.new) }
+    ensures { OnOk result (IsSplit tasks.old (early.else_of (option_map early.of_stmt stmt.now)) (weight.optional (option_map weight.of_stmt stmt.now)) tasks.new) }
 {
     match stmt {
         None => Ok(()),
@@ -45,7 +46,7 @@ fn put_else<'a>(tasks: &mut Stack<Task<'a>>, stmt: &'a Option<Boxed<Stmt>>) -> R
 /// Puts what a `for` begins with on the tasks.
 #[tactic(auto, using(crate::proofs::StmtSplits::begins))]
 fn put_begin<'a>(tasks: &mut Stack<Task<'a>>, begin: &'a ForBegin) -> Result<(), NoMemory>
-    ensures { OnOk result (IsSplit tasks.old (early.of_begin begin.now) tasks.new) }
+    ensures { OnOk result (IsSplit tasks.old (early.of_begin begin.now) (weight.of_begin begin.now) tasks.new) }
 {
     match begin {
         ForBegin::Nothing => Ok(()),
@@ -65,7 +66,7 @@ fn put_for<'a>(
     update: &'a Option<Expr>,
     body: &'a Stmt,
 ) -> Result<(), NoMemory>
-    ensures { OnOk result (IsSplit tasks.old (early.scope (early.of_begin begin.now ++ early.optional (option_map early.of_expr test.now) ++ early.optional (option_map early.of_expr update.now) ++ early.loop_body (early.of_stmt body.now))) tasks.new) }
+    ensures { OnOk result (IsSplit tasks.old (early.scope (early.of_begin begin.now ++ early.optional (option_map early.of_expr test.now) ++ early.optional (option_map early.of_expr update.now) ++ early.loop_body (early.of_stmt body.now))) (weight.part (weight.of_begin begin.now) + weight.optional (option_map weight.of_expr test.now) + weight.optional (option_map weight.of_expr update.now) + weight.part (weight.of_stmt body.now)) tasks.new) }
 {
     tasks.push(Task::Leave)?;
     put_body(tasks, How::Loop, body)?;
@@ -83,7 +84,7 @@ fn put_for_of<'a>(
     value: &'a Expr,
     body: &'a Stmt,
 ) -> Result<(), NoMemory>
-    ensures { OnOk result (IsSplit tasks.old (early.scope (early.Declares name.now ∷ early.of_expr value.now ++ early.loop_body (early.of_stmt body.now))) tasks.new) }
+    ensures { OnOk result (IsSplit tasks.old (early.scope (early.Declares name.now ∷ early.of_expr value.now ++ early.loop_body (early.of_stmt body.now))) (weight.part 0 + weight.part (weight.of_expr value.now) + weight.part (weight.of_stmt body.now)) tasks.new) }
 {
     tasks.push(Task::Leave)?;
     put_body(tasks, How::Loop, body)?;
@@ -95,7 +96,7 @@ fn put_for_of<'a>(
 /// Puts a declared name on the tasks, where there is one.
 #[tactic(auto, using(crate::proofs::StmtSplits::names))]
 fn put_name<'a>(tasks: &mut Stack<Task<'a>>, name: &'a Option<Name>) -> Result<(), NoMemory>
-    ensures { OnOk result (IsSplit tasks.old (early.named name.now) tasks.new) }
+    ensures { OnOk result (IsSplit tasks.old (early.named name.now) 1 tasks.new) }
 {
     match name {
         None => Ok(()),
@@ -106,7 +107,7 @@ fn put_name<'a>(tasks: &mut Stack<Task<'a>>, name: &'a Option<Name>) -> Result<(
 /// Puts a `catch` on the tasks.
 #[tactic(auto, using(crate::proofs::StmtSplits::on_catch))]
 fn put_caught<'a>(tasks: &mut Stack<Task<'a>>, catch: &'a Catch) -> Result<(), NoMemory>
-    ensures { OnOk result (IsSplit tasks.old (early.of_catch catch.now) tasks.new) }
+    ensures { OnOk result (IsSplit tasks.old (early.of_catch catch.now) (weight.of_catch catch.now) tasks.new) }
 {
     tasks.push(Task::Leave)?;
     put(tasks, Piece::Stmts(catch.body.as_slice()))?;
@@ -117,7 +118,7 @@ fn put_caught<'a>(tasks: &mut Stack<Task<'a>>, catch: &'a Catch) -> Result<(), N
 /// Puts a `catch` on the tasks, where there is one.
 #[tactic(auto, using(crate::proofs::StmtSplits::catches))]
 fn put_catch<'a>(tasks: &mut Stack<Task<'a>>, catch: &'a Option<Catch>) -> Result<(), NoMemory>
-    ensures { OnOk result (IsSplit tasks.old (early.optional (option_map early.of_catch catch.now)) tasks.new) }
+    ensures { OnOk result (IsSplit tasks.old (early.optional (option_map early.of_catch catch.now)) (weight.optional (option_map weight.of_catch catch.now)) tasks.new) }
 {
     match catch {
         None => Ok(()),
@@ -131,7 +132,7 @@ fn put_finally<'a>(
     tasks: &mut Stack<Task<'a>>,
     stmts: &'a Option<Seq<Stmt>>,
 ) -> Result<(), NoMemory>
-    ensures { OnOk result (IsSplit tasks.old (early.finally_of (option_map (map early.of_stmt) stmts.now)) tasks.new) }
+    ensures { OnOk result (IsSplit tasks.old (early.finally_of (option_map (map early.of_stmt) stmts.now)) (weight.finally_of (option_map (map weight.of_stmt) stmts.now)) tasks.new) }
 {
     match stmts {
         None => Ok(()),
@@ -142,7 +143,7 @@ fn put_finally<'a>(
 /// Puts the parts of a statement on the tasks.
 #[tactic(auto, using(crate::proofs::StmtSplits::stmts))]
 pub(crate) fn split_stmt<'a>(tasks: &mut Stack<Task<'a>>, stmt: &'a Stmt) -> Result<(), NoMemory>
-    ensures { OnOk result (IsSplit tasks.old (early.of_stmt stmt.now) tasks.new) }
+    ensures { OnOk result (IsSplit tasks.old (early.of_stmt stmt.now) (weight.of_stmt stmt.now) tasks.new) }
 {
     match stmt {
         Stmt::Declare(_, declarations) => {

@@ -1,6 +1,7 @@
-ghost use Rattle.std.specs.Prelude.{◌≡◌, [], ◌∷◌, map, OnOk};
+ghost use Rattle.std.specs.Prelude.{◌≡◌, ◌≤◌, ◌<◌, ◌+◌, [], ◌∷◌, map, OnOk};
 ghost use Rattle.js_scope.specs.Early as early;
-ghost use Rattle.js_scope.specs.Verdict.{IsSplit, Goes, Comes, answered, entered, judge, leave, piece_marks, settle, top_scope, verdict};
+ghost use Rattle.js_scope.specs.Weight as weight;
+ghost use Rattle.js_scope.specs.Verdict.{IsSplit, Goes, Comes, answered, entered, judge, leave, piece_marks, piece_weight, settle, top_scope, total, verdict};
 
 use crate::fault::EarlyEnd;
 use crate::lists::{
@@ -25,7 +26,8 @@ struct Walk<'a> {
 
 /// Enters a scope.
 fn enter<'a>(alloc: Global, walk: &mut Walk<'a>, how: How) -> Result<(), EarlyEnd>
-    ensures { Goes (verdict walk.old.tasks (entered how walk.old.scope) (walk.old.scope ∷ walk.old.outer)) (verdict walk.new.tasks walk.new.scope walk.new.outer) result }
+    ensures fault { Goes (verdict walk.old.tasks (entered how walk.old.scope) (walk.old.scope ∷ walk.old.outer)) (verdict walk.new.tasks walk.new.scope walk.new.outer) result }
+    ensures tasks { walk.new.tasks ≡ walk.old.tasks }
 {
     let inner = walk.scope.entered(alloc, how);
     let around = std::mem::replace(&mut walk.scope, inner);
@@ -37,7 +39,8 @@ fn enter<'a>(alloc: Global, walk: &mut Walk<'a>, how: How) -> Result<(), EarlyEn
 
 /// Leaves a scope.
 fn go_out<'a>(walk: &mut Walk<'a>)
-    ensures { leave walk.old.scope walk.old.outer (λ s o. verdict walk.old.tasks s o) ≡ verdict walk.new.tasks walk.new.scope walk.new.outer }
+    ensures fault { leave walk.old.scope walk.old.outer (λ s o. verdict walk.old.tasks s o) ≡ verdict walk.new.tasks walk.new.scope walk.new.outer }
+    ensures tasks { walk.new.tasks ≡ walk.old.tasks }
 {
     if let Some(scope) = walk.outer.pop() {
         walk.scope = scope;
@@ -47,7 +50,8 @@ fn go_out<'a>(walk: &mut Walk<'a>)
 /// Goes through a piece.
 #[tactic(auto, using(crate::proofs::WalkLaws::goes))]
 fn go_through<'a>(walk: &mut Walk<'a>, piece: Piece<'a>) -> Result<(), EarlyEnd>
-    ensures { Goes (settle (judge walk.old.scope (piece_marks piece.entry)) (λ t. verdict walk.old.tasks t walk.old.outer)) (verdict walk.new.tasks walk.new.scope walk.new.outer) result }
+    ensures fault { Goes (settle (judge walk.old.scope (piece_marks piece.entry)) (λ t. verdict walk.old.tasks t walk.old.outer)) (verdict walk.new.tasks walk.new.scope walk.new.outer) result }
+    ensures weight { OnOk result (total walk.new.tasks ≤ piece_weight piece.entry + total walk.old.tasks) }
 {
     match piece {
         Piece::Declares(name) => walk.scope.declare(name),
@@ -77,7 +81,8 @@ fn grown(answer: Result<(), NoMemory>) -> Result<(), EarlyEnd>
 
 /// Does one task.
 fn step<'a>(alloc: Global, walk: &mut Walk<'a>, task: Task<'a>) -> Result<(), EarlyEnd>
-    ensures { Goes (verdict (task.entry ∷ walk.old.tasks) walk.old.scope walk.old.outer) (verdict walk.new.tasks walk.new.scope walk.new.outer) result }
+    ensures fault { Goes (verdict (task.entry ∷ walk.old.tasks) walk.old.scope walk.old.outer) (verdict walk.new.tasks walk.new.scope walk.new.outer) result }
+    ensures weight { OnOk result (total walk.new.tasks < total (task.entry ∷ walk.old.tasks)) }
 {
     match task {
         Task::Enter(how) => enter(alloc, walk, how),
@@ -91,7 +96,7 @@ fn step<'a>(alloc: Global, walk: &mut Walk<'a>, task: Task<'a>) -> Result<(), Ea
 
 /// Puts an item on the tasks.
 fn put_item<'a>(tasks: &mut Stack<Task<'a>>, item: &'a Item) -> Result<(), NoMemory>
-    ensures { OnOk result (IsSplit tasks.old (early.of_item item.now) tasks.new) }
+    ensures { OnOk result (IsSplit tasks.old (early.of_item item.now) (1 + weight.of_item item.now) tasks.new) }
 {
     match item {
         Item::Stmt(stmt) => put(tasks, Piece::Stmt(stmt)),
@@ -101,7 +106,7 @@ fn put_item<'a>(tasks: &mut Stack<Task<'a>>, item: &'a Item) -> Result<(), NoMem
 
 /// Puts the items of a script on the tasks.
 fn put_items<'a>(tasks: &mut Stack<Task<'a>>, items: &'a [Item]) -> Result<(), NoMemory>
-    ensures { OnOk result (IsSplit tasks.old (early.concat (map early.of_item items.now)) tasks.new) }
+    ensures { OnOk result (IsSplit tasks.old (early.concat (map early.of_item items.now)) (weight.parts (map weight.of_item items.now)) tasks.new) }
 {
     let mut left = items.len();
     while left > 0 {
@@ -115,18 +120,10 @@ fn put_items<'a>(tasks: &mut Stack<Task<'a>>, items: &'a [Item]) -> Result<(), N
 fn run<'a>(alloc: Global, walk: &mut Walk<'a>) -> Result<(), EarlyEnd>
     ensures { Comes (verdict walk.old.tasks walk.old.scope walk.old.outer) result }
 {
-    for _ in 0..u64::MAX {
-        match walk.tasks.pop() {
-            None => return Ok(()),
-            Some(task) => {
-                if let Err(end) = step(alloc, walk, task) {
-                    return Err(end);
-                }
-            }
-        }
+    while let Some(task) = walk.tasks.pop() {
+        step(alloc, walk, task)?;
     }
-    // No memory holds a script that takes so many steps.
-    Err(EarlyEnd::NoMemory)
+    Ok(())
 }
 
 /// Does all tasks, from a script's top level.

@@ -1,11 +1,12 @@
 use Rattle.std.proofs.Common.{map, ◌≤◌, length, drop}
 use Rattle.js_scope.specs.Early.{concat, of_item}
 use Rattle.js_scope.specs.Verdict.{IsSplit}
+use Rattle.js_scope.specs.Weight as weight
 use Rattle.js_scope.proofs.walk.put_items.Given as goal
 
 -- the items from `left` on stand on the tasks
 abbrev pub invariant-loop-left : goal.invariant-loop-left
-invariant-loop-left l = record { within : l.left ≤ length l.items; split : IsSplit l.fn.tasks (concat (map of_item (drop l.left l.items))) l.tasks }
+invariant-loop-left l = record { within : l.left ≤ length l.items; split : IsSplit l.fn.tasks (concat (map of_item (drop l.left l.items))) (weight.parts (map weight.of_item (drop l.left l.items))) l.tasks }
 
 abbrev pub decreases-loop-left : goal.decreases-loop-left
 decreases-loop-left l = l.left
