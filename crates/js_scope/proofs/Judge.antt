@@ -6,8 +6,8 @@ use Rattle.js_scope.specs.declared.fault.EarlyFault.{EarlyFault}
 use Rattle.js_scope.specs.declared.fault.EarlyKind.{EarlyKind}
 use Rattle.js_scope.specs.declared.fault.EarlyKind.TheVariants.{DoubleName, ReturnOutside, AwaitOutside, BreakOutside}
 use Rattle.js_scope.specs.declared.scope.Scope.{Scope}
-use Rattle.js_scope.specs.declared.task.How.{How}
-use Rattle.js_scope.specs.declared.task.How.TheVariants as how
+use Rattle.js_scope.specs.declared.task.ScopeKind.{ScopeKind}
+use Rattle.js_scope.specs.declared.task.ScopeKind.TheVariants as how
 use Rattle.js_scope.specs.Early.{Mark, Marks, Declares, Unless, Faulty, fault, stands, scope_from, loop, function, through_loop, through_function, faults_of, first}
 use Rattle.js_scope.specs.Names.{has, with_name}
 use Rattle.js_scope.specs.Verdict.{nothing_around, top_scope, allows, around_in, entered, judge_word, judge_mark, judge, and_then, inside, settle}
@@ -28,32 +28,32 @@ abbrev pub back : Scope → Judged → Judged
 back s (Ok t) = Ok s
 back s (Err f) = Err f
 
-abbrev shown : How → Marks → Marks
+abbrev shown : ScopeKind → Marks → Marks
 shown how.Block ms = ms
 shown how.Loop ms = loop ms
 shown (how.Function is_async) ms = function is_async ms
 
-abbrev shown_mark : How → Mark → Marks
+abbrev shown_mark : ScopeKind → Mark → Marks
 shown_mark how.Block m = m ∷ []
 shown_mark how.Loop m = through_loop m
 shown_mark (how.Function is_async) m = through_function is_async m
 
-shown_nil : (h : How) → shown h [] ≡ []
+shown_nil : (h : ScopeKind) → shown h [] ≡ []
 shown_nil how.Block = refl
 shown_nil how.Loop = refl
 shown_nil (how.Function a) = refl
 
-shown_cons : (h : How) (m : Mark) (ms : Marks) → shown h (m ∷ ms) ≡ shown_mark h m ++ shown h ms
+shown_cons : (h : ScopeKind) (m : Mark) (ms : Marks) → shown h (m ∷ ms) ≡ shown_mark h m ++ shown h ms
 shown_cons how.Block m ms = refl
 shown_cons how.Loop m ms = refl
 shown_cons (how.Function a) m ms = refl
 
-shown_fault : (h : How) (f : EarlyFault) → shown_mark h (Faulty f) ≡ Faulty f ∷ []
+shown_fault : (h : ScopeKind) (f : EarlyFault) → shown_mark h (Faulty f) ≡ Faulty f ∷ []
 shown_fault how.Block f = refl
 shown_fault how.Loop f = refl
 shown_fault (how.Function a) f = refl
 
-inside_is : (h : How) (ms : Marks) → inside h ms ≡ shown h (scope_from [] ms)
+inside_is : (h : ScopeKind) (ms : Marks) → inside h ms ≡ shown h (scope_from [] ms)
 inside_is how.Block ms = refl
 inside_is how.Loop ms = refl
 inside_is (how.Function a) ms = refl
@@ -65,7 +65,7 @@ and_then_ok : (r : Judged) → and_then r (λ t. Ok t) ≡ r
 and_then_ok (Ok t) = refl
 and_then_ok (Err f) = refl
 
-shown_word : (h : How) (s : Scope) (k : EarlyKind) (p : ℕ) → judge s (shown_mark h (Unless (fault k p))) ≡ verdict_of s (allows (around_in h s.around) k) (fault k p)
+shown_word : (h : ScopeKind) (s : Scope) (k : EarlyKind) (p : ℕ) → judge s (shown_mark h (Unless (fault k p))) ≡ verdict_of s (allows (around_in h s.around) k) (fault k p)
 shown_word how.Block s k p = and_then_ok (judge_word s (fault k p))
 shown_word how.Loop s DoubleName p = refl
 shown_word how.Loop s ReturnOutside p = and_then_ok (judge_word s (fault ReturnOutside p))
@@ -84,7 +84,7 @@ Same seen names = (q : List ℕ) → stands q seen ≡ has q names
 same_with : (seen names : List (List ℕ)) (n : List ℕ) → Same seen names → Same (n ∷ seen) (with_name names n)
 same_with seen names n same = λ q. ap (λ b. pointwise nat_eq q n || b) (same q) ∙ sym (has_with q n names)
 
-judge_shown : (h : How) (s : Scope) (ms : Marks) (seen names : List (List ℕ)) → Same seen names → judge s (shown h (scope_from seen ms)) ≡ back s (judge (record { names = names; around = around_in h s.around }) ms)
+judge_shown : (h : ScopeKind) (s : Scope) (ms : Marks) (seen names : List (List ℕ)) → Same seen names → judge s (shown h (scope_from seen ms)) ≡ back s (judge (record { names = names; around = around_in h s.around }) ms)
 judge_shown h s [] seen names same = ap (judge s) (shown_nil h)
 judge_shown h s (Declares n ∷ ms) seen names same =
     let f = fault DoubleName n.place in
@@ -106,7 +106,7 @@ judge_shown h s (Unless f ∷ ms) seen names same =
 judge_shown h s (Faulty f ∷ ms) seen names same =
     ap (judge s) (shown_cons h (Faulty f) (scope_from seen ms) ∙ ap (λ xs. xs ++ shown h (scope_from seen ms)) (shown_fault h f))
 
-pub judge_inside : (h : How) (s : Scope) (ms : Marks) → judge s (inside h ms) ≡ back s (judge (entered h s) ms)
+pub judge_inside : (h : ScopeKind) (s : Scope) (ms : Marks) → judge s (inside h ms) ≡ back s (judge (entered h s) ms)
 judge_inside h s ms = ap (judge s) (inside_is h ms) ∙ judge_shown h s ms [] [] (λ q. refl)
 
 -- ---- the top level

@@ -1,6 +1,6 @@
--- How tasks are put together.
+-- ScopeKind tasks are put together.
 use Rattle.std.proofs.Common.{◌≡◌, ℕ, ◌≤◌, ◌+◌, arith, List, [], ◌∷◌, ◌++◌, Ok, Err, refl, sym, ap, ◌∙◌}
-use Rattle.js_scope.specs.declared.task.How.{How}
+use Rattle.js_scope.specs.declared.task.ScopeKind.{ScopeKind}
 use Rattle.js_scope.specs.declared.task.Piece.{Piece}
 use Rattle.js_scope.specs.declared.task.Task.{Task}
 use Rattle.js_scope.specs.declared.task.Task.TheVariants as task
@@ -26,7 +26,7 @@ split_then old mid new xs ys i j a b = record {
 pub split_piece : (old : List Task) (p : Piece) → IsSplit old (piece_marks p) (1 + piece_weight p) (task.Piece p ∷ old)
 split_piece old p = record { same = λ s outer. refl; heavier = omega arith }
 
-pub split_inside : (old mid : List Task) (h : How) (ms : Marks) (n : ℕ) → IsSplit (task.Leave ∷ old) ms n mid → IsSplit old (inside h ms) (2 + n) (task.Enter h ∷ mid)
+pub split_inside : (old mid : List Task) (h : ScopeKind) (ms : Marks) (n : ℕ) → IsSplit (task.Leave ∷ old) ms n mid → IsSplit old (inside h ms) (2 + n) (task.Enter h ∷ mid)
 split_inside old mid h ms n a = record {
   same = λ s outer.
       a.same (entered h s) (s ∷ outer) ∙

@@ -17,8 +17,8 @@ use Rattle.js_tree.specs.declared.tree.Target.{Target}
 use Rattle.js_tree.specs.declared.tree.Target.TheVariants as target
 use Rattle.js_tree.specs.declared.tree.TemplateItem.{TemplateItem}
 use Rattle.js_scope.specs.declared.fault.EarlyKind.TheVariants.{AwaitOutside}
-use Rattle.js_scope.specs.declared.task.How.{How}
-use Rattle.js_scope.specs.declared.task.How.TheVariants as how
+use Rattle.js_scope.specs.declared.task.ScopeKind.{ScopeKind}
+use Rattle.js_scope.specs.declared.task.ScopeKind.TheVariants as how
 use Rattle.js_scope.specs.declared.task.Piece.{Piece}
 use Rattle.js_scope.specs.declared.task.Task.{Task}
 use Rattle.js_scope.specs.declared.task.Task.TheVariants as task
@@ -39,16 +39,16 @@ on_ok (Err e) a f = tt
 pub on_piece : {T E : Type 0} (r : Result T E) (old new : Tasks) (p : Piece) → OnOk r (new ≡ task.Piece p ∷ old) → OnOk r (IsSplit old (piece_marks p) (1 + piece_weight p) new)
 on_piece r old new p a = on_ok r a (λ e. subst (IsSplit old (piece_marks p) (1 + piece_weight p)) (sym e) (split_piece old p))
 
-pub on_inside : {T E : Type 0} (r : Result T E) (old left mid new : Tasks) (h : How) (ms : Marks) (n : ℕ) → left ≡ task.Leave ∷ old → IsSplit left ms n mid → OnOk r (new ≡ task.Enter h ∷ mid) → OnOk r (IsSplit old (inside h ms) (2 + n) new)
+pub on_inside : {T E : Type 0} (r : Result T E) (old left mid new : Tasks) (h : ScopeKind) (ms : Marks) (n : ℕ) → left ≡ task.Leave ∷ old → IsSplit left ms n mid → OnOk r (new ≡ task.Enter h ∷ mid) → OnOk r (IsSplit old (inside h ms) (2 + n) new)
 on_inside r old left mid new h ms n l s a = on_ok r a (λ e. subst (IsSplit old (inside h ms) (2 + n)) (sym e) (split_inside old mid h ms n (subst (λ ts. IsSplit ts ms n mid) l s)))
 
-on_opened : {T E : Type 0} (r : Result T E) (old left mid new : Tasks) (h : How) (ms : Marks) (n : ℕ) → left ≡ task.Leave ∷ old → IsSplit left ms (1 + n) mid → OnOk r (new ≡ task.Enter h ∷ mid) → OnOk r (IsSplit old (inside h ms) (weight.part n) new)
+on_opened : {T E : Type 0} (r : Result T E) (old left mid new : Tasks) (h : ScopeKind) (ms : Marks) (n : ℕ) → left ≡ task.Leave ∷ old → IsSplit left ms (1 + n) mid → OnOk r (new ≡ task.Enter h ∷ mid) → OnOk r (IsSplit old (inside h ms) (weight.part n) new)
 on_opened r old left mid new h ms n l s a = on_ok r (on_inside r old left mid new h ms (1 + n) l s a) (λ i. split_as old new (inside h ms) (inside h ms) (2 + (1 + n)) (weight.part n) refl (omega arith) i)
 
-pub on_block : {T E : Type 0} (r : Result T E) (old left mid new : Tasks) (h : How) (ss : List Stmt) → left ≡ task.Leave ∷ old → IsSplit left (concat (map of_stmt ss)) (1 + weight.parts (map weight.of_stmt ss)) mid → OnOk r (new ≡ task.Enter h ∷ mid) → OnOk r (IsSplit old (inside h (concat (map of_stmt ss))) (weight.part (weight.parts (map weight.of_stmt ss))) new)
+pub on_block : {T E : Type 0} (r : Result T E) (old left mid new : Tasks) (h : ScopeKind) (ss : List Stmt) → left ≡ task.Leave ∷ old → IsSplit left (concat (map of_stmt ss)) (1 + weight.parts (map weight.of_stmt ss)) mid → OnOk r (new ≡ task.Enter h ∷ mid) → OnOk r (IsSplit old (inside h (concat (map of_stmt ss))) (weight.part (weight.parts (map weight.of_stmt ss))) new)
 on_block r old left mid new h ss l s a = on_opened r old left mid new h (concat (map of_stmt ss)) (weight.parts (map weight.of_stmt ss)) l s a
 
-pub on_body : {T E : Type 0} (r : Result T E) (old left mid new : Tasks) (h : How) (x : Stmt) → left ≡ task.Leave ∷ old → IsSplit left (of_stmt x) (1 + weight.of_stmt x) mid → OnOk r (new ≡ task.Enter h ∷ mid) → OnOk r (IsSplit old (inside h (of_stmt x)) (weight.part (weight.of_stmt x)) new)
+pub on_body : {T E : Type 0} (r : Result T E) (old left mid new : Tasks) (h : ScopeKind) (x : Stmt) → left ≡ task.Leave ∷ old → IsSplit left (of_stmt x) (1 + weight.of_stmt x) mid → OnOk r (new ≡ task.Enter h ∷ mid) → OnOk r (IsSplit old (inside h (of_stmt x)) (weight.part (weight.of_stmt x)) new)
 on_body r old left mid new h x l s a = on_opened r old left mid new h (of_stmt x) (weight.of_stmt x) l s a
 
 -- a form that is seen as one of its parts, or as two of them
@@ -82,14 +82,17 @@ on_function r old left mid1 mid2 new f ss ps e_s e_p l s t e =
 pub on_arrow : {T E : Type 0} (r : Result T E) (old left mid1 mid2 new : Tasks) (a : Bool) (ps : List Name) (b : ArrowBody) → left ≡ task.Leave ∷ old → IsSplit left (of_arrow b) (weight.of_arrow b) mid1 → IsSplit mid1 (declares ps) (1 + weight.names ps) mid2 → OnOk r (new ≡ task.Enter (how.Function a) ∷ mid2) → OnOk r (IsSplit old (function_of a ps (of_arrow b)) (weight.part (weight.names ps) + weight.of_arrow b) new)
 on_arrow r old left mid1 mid2 new a ps b l s t e = on_called r old left mid1 mid2 new a ps (of_arrow b) (weight.of_arrow b) l s t e
 
+pub on_two : {T E : Type 0} (r : Result T E) (old mid new : Tasks) (x y : Expr) → IsSplit old (of_expr y) (1 + weight.of_expr y) mid → OnOk r (IsSplit mid (of_expr x) (1 + weight.of_expr x) new) → OnOk r (IsSplit old (of_expr x ++ of_expr y) (2 + weight.of_expr x + weight.of_expr y) new)
+on_two r old mid new x y a b = as_two r old mid new (of_expr y) (of_expr x) (of_expr x ++ of_expr y) (1 + weight.of_expr y) (1 + weight.of_expr x) (2 + weight.of_expr x + weight.of_expr y) refl (omega arith) a b
+
 pub split_variable : (old : Tasks) (x : Target) (n : Name) → x ≡ target.Variable n → IsSplit old (of_target x) (weight.of_target x) old
 split_variable old x n e = as_none old (of_target x) (weight.of_target x) (ap of_target e ∙ eq.variable_marks n)
 
 pub split_field : {T E : Type 0} (r : Result T E) (old new : Tasks) (x : Target) (o : Expr) (n : Name) (o' : Expr) → x ≡ target.Field o n → o' ≡ o → OnOk r (IsSplit old (of_expr o') (1 + weight.of_expr o') new) → OnOk r (IsSplit old (of_target x) (weight.of_target x) new)
 split_field r old new x o n o' e e_o s0 = as_one r old new (of_expr o') (of_target x) (1 + weight.of_expr o') (weight.of_target x) (ap of_target e ∙ eq.field_marks o n ∙ ap (λ (z : Expr). of_expr z) (sym e_o)) (omega (arith, ap weight.of_target e, eqw.field_weight o n, ap weight.of_expr e_o)) s0
 
-pub split_item : {T E : Type 0} (r : Result T E) (old mid1 new : Tasks) (x : Target) (o : Expr) (k : Expr) (o' : Expr) (k' : Expr) → x ≡ target.Item o k → o' ≡ o → k' ≡ k → IsSplit old (of_expr k') (1 + weight.of_expr k') mid1 → OnOk r (IsSplit mid1 (of_expr o') (1 + weight.of_expr o') new) → OnOk r (IsSplit old (of_target x) (weight.of_target x) new)
-split_item r old mid1 new x o k o' k' e e_o e_k s0 s1 = as_two r old mid1 new (of_expr k') (of_expr o') (of_target x) (1 + weight.of_expr k') (1 + weight.of_expr o') (weight.of_target x) (ap of_target e ∙ eq.item_marks o k ∙ ap (λ (z : Expr). of_expr z ++ of_expr k) (sym e_o) ∙ ap (λ (z : Expr). of_expr o' ++ of_expr z) (sym e_k)) (omega (arith, ap weight.of_target e, eqw.item_weight o k, ap weight.of_expr e_o, ap weight.of_expr e_k)) s0 s1
+pub split_item : {T E : Type 0} (r : Result T E) (old new : Tasks) (x : Target) (o : Expr) (k : Expr) (o' : Expr) (k' : Expr) → x ≡ target.Item o k → o' ≡ o → k' ≡ k → OnOk r (IsSplit old (of_expr o' ++ of_expr k') (2 + weight.of_expr o' + weight.of_expr k') new) → OnOk r (IsSplit old (of_target x) (weight.of_target x) new)
+split_item r old new x o k o' k' e e_o e_k s0 = as_one r old new (of_expr o' ++ of_expr k') (of_target x) (2 + weight.of_expr o' + weight.of_expr k') (weight.of_target x) (ap of_target e ∙ eq.item_marks o k ∙ ap (λ (z : Expr). of_expr z ++ of_expr k) (sym e_o) ∙ ap (λ (z : Expr). of_expr o' ++ of_expr z) (sym e_k)) (omega (arith, ap weight.of_target e, eqw.item_weight o k, ap weight.of_expr e_o, ap weight.of_expr e_k)) s0
 
 pub split_statements : {T E : Type 0} (r : Result T E) (old new : Tasks) (x : ArrowBody) (ss : List Stmt) (ss' : List Stmt) → x ≡ arrow.Statements ss → ss' ≡ ss → OnOk r (IsSplit old (concat (map of_stmt ss')) (1 + weight.parts (map weight.of_stmt ss')) new) → OnOk r (IsSplit old (of_arrow x) (weight.of_arrow x) new)
 split_statements r old new x ss ss' e e_ss s0 = as_one r old new (concat (map of_stmt ss')) (of_arrow x) (1 + weight.parts (map weight.of_stmt ss')) (weight.of_arrow x) (ap of_arrow e ∙ eq.statements_marks ss ∙ ap (λ (z : List Stmt). concat (map of_stmt z)) (sym e_ss)) (omega (arith, ap weight.of_arrow e, eqw.statements_weight ss, ap (λ (z : List Stmt). weight.parts (map weight.of_stmt z)) e_ss)) s0
@@ -142,11 +145,11 @@ split_await r old mid1 new x p v p' v' e e_p e_v s0 s1 = as_two r old mid1 new (
 pub split_update : {T E : Type 0} (r : Result T E) (old new : Tasks) (x : Expr) (side : UpdateSide) (op : UpdateOp) (t : Target) (t' : Target) → x ≡ expr.Update side op t → t' ≡ t → OnOk r (IsSplit old (of_target t') (weight.of_target t') new) → OnOk r (IsSplit old (of_expr x) (weight.of_expr x) new)
 split_update r old new x side op t t' e e_t s0 = as_one r old new (of_target t') (of_expr x) (weight.of_target t') (weight.of_expr x) (ap of_expr e ∙ eq.update_marks side op t ∙ ap (λ (z : Target). of_target z) (sym e_t)) (omega (arith, ap weight.of_expr e, eqw.update_weight side op t, ap weight.of_target e_t)) s0
 
-pub split_binary : {T E : Type 0} (r : Result T E) (old mid1 new : Tasks) (x : Expr) (op : BinaryOp) (l : Expr) (h : Expr) (l' : Expr) (h' : Expr) → x ≡ expr.Binary op l h → l' ≡ l → h' ≡ h → IsSplit old (of_expr h') (1 + weight.of_expr h') mid1 → OnOk r (IsSplit mid1 (of_expr l') (1 + weight.of_expr l') new) → OnOk r (IsSplit old (of_expr x) (weight.of_expr x) new)
-split_binary r old mid1 new x op l h l' h' e e_l e_h s0 s1 = as_two r old mid1 new (of_expr h') (of_expr l') (of_expr x) (1 + weight.of_expr h') (1 + weight.of_expr l') (weight.of_expr x) (ap of_expr e ∙ eq.binary_marks op l h ∙ ap (λ (z : Expr). of_expr z ++ of_expr h) (sym e_l) ∙ ap (λ (z : Expr). of_expr l' ++ of_expr z) (sym e_h)) (omega (arith, ap weight.of_expr e, eqw.binary_weight op l h, ap weight.of_expr e_l, ap weight.of_expr e_h)) s0 s1
+pub split_binary : {T E : Type 0} (r : Result T E) (old new : Tasks) (x : Expr) (op : BinaryOp) (l : Expr) (h : Expr) (l' : Expr) (h' : Expr) → x ≡ expr.Binary op l h → l' ≡ l → h' ≡ h → OnOk r (IsSplit old (of_expr l' ++ of_expr h') (2 + weight.of_expr l' + weight.of_expr h') new) → OnOk r (IsSplit old (of_expr x) (weight.of_expr x) new)
+split_binary r old new x op l h l' h' e e_l e_h s0 = as_one r old new (of_expr l' ++ of_expr h') (of_expr x) (2 + weight.of_expr l' + weight.of_expr h') (weight.of_expr x) (ap of_expr e ∙ eq.binary_marks op l h ∙ ap (λ (z : Expr). of_expr z ++ of_expr h) (sym e_l) ∙ ap (λ (z : Expr). of_expr l' ++ of_expr z) (sym e_h)) (omega (arith, ap weight.of_expr e, eqw.binary_weight op l h, ap weight.of_expr e_l, ap weight.of_expr e_h)) s0
 
-pub split_conditional : {T E : Type 0} (r : Result T E) (old mid1 mid2 new : Tasks) (x : Expr) (t : Expr) (l : Expr) (h : Expr) (t' : Expr) (l' : Expr) (h' : Expr) → x ≡ expr.Conditional t l h → t' ≡ t → l' ≡ l → h' ≡ h → IsSplit old (of_expr h') (1 + weight.of_expr h') mid1 → IsSplit mid1 (of_expr l') (1 + weight.of_expr l') mid2 → OnOk r (IsSplit mid2 (of_expr t') (1 + weight.of_expr t') new) → OnOk r (IsSplit old (of_expr x) (weight.of_expr x) new)
-split_conditional r old mid1 mid2 new x t l h t' l' h' e e_t e_l e_h s0 s1 s2 = as_three r old mid1 mid2 new (of_expr h') (of_expr l') (of_expr t') (of_expr x) (1 + weight.of_expr h') (1 + weight.of_expr l') (1 + weight.of_expr t') (weight.of_expr x) (ap of_expr e ∙ eq.conditional_marks t l h ∙ ap (λ (z : Expr). of_expr z ++ of_expr l ++ of_expr h) (sym e_t) ∙ ap (λ (z : Expr). of_expr t' ++ of_expr z ++ of_expr h) (sym e_l) ∙ ap (λ (z : Expr). of_expr t' ++ of_expr l' ++ of_expr z) (sym e_h)) (omega (arith, ap weight.of_expr e, eqw.conditional_weight t l h, ap weight.of_expr e_t, ap weight.of_expr e_l, ap weight.of_expr e_h)) s0 s1 s2
+pub split_conditional : {T E : Type 0} (r : Result T E) (old mid new : Tasks) (x : Expr) (t : Expr) (l : Expr) (h : Expr) (t' : Expr) (l' : Expr) (h' : Expr) → x ≡ expr.Conditional t l h → t' ≡ t → l' ≡ l → h' ≡ h → IsSplit old (of_expr h') (1 + weight.of_expr h') mid → OnOk r (IsSplit mid (of_expr t' ++ of_expr l') (2 + weight.of_expr t' + weight.of_expr l') new) → OnOk r (IsSplit old (of_expr x) (weight.of_expr x) new)
+split_conditional r old mid new x t l h t' l' h' e e_t e_l e_h s0 s1 = as_two r old mid new (of_expr h') (of_expr t' ++ of_expr l') (of_expr x) (1 + weight.of_expr h') (2 + weight.of_expr t' + weight.of_expr l') (weight.of_expr x) (ap of_expr e ∙ eq.conditional_marks t l h ∙ ap (λ (z : Expr). of_expr z ++ of_expr l ++ of_expr h) (sym e_t) ∙ ap (λ (z : Expr). of_expr t' ++ of_expr z ++ of_expr h) (sym e_l) ∙ ap (λ (z : Expr). of_expr t' ++ of_expr l' ++ of_expr z) (sym e_h)) (omega (arith, ap weight.of_expr e, eqw.conditional_weight t l h, ap weight.of_expr e_t, ap weight.of_expr e_l, ap weight.of_expr e_h)) s0 s1
 
 pub split_assign : {T E : Type 0} (r : Result T E) (old mid1 new : Tasks) (x : Expr) (op : AssignOp) (t : Target) (v : Expr) (t' : Target) (v' : Expr) → x ≡ expr.Assign op t v → t' ≡ t → v' ≡ v → IsSplit old (of_expr v') (1 + weight.of_expr v') mid1 → OnOk r (IsSplit mid1 (of_target t') (weight.of_target t') new) → OnOk r (IsSplit old (of_expr x) (weight.of_expr x) new)
 split_assign r old mid1 new x op t v t' v' e e_t e_v s0 s1 = as_two r old mid1 new (of_expr v') (of_target t') (of_expr x) (1 + weight.of_expr v') (weight.of_target t') (weight.of_expr x) (ap of_expr e ∙ eq.assign_marks op t v ∙ ap (λ (z : Target). of_target z ++ of_expr v) (sym e_t) ∙ ap (λ (z : Expr). of_target t' ++ of_expr z) (sym e_v)) (omega (arith, ap weight.of_expr e, eqw.assign_weight op t v, ap weight.of_target e_t, ap weight.of_expr e_v)) s0 s1
@@ -160,8 +163,8 @@ split_new r old new x n es es' e e_es s0 = as_one r old new (concat (map of_expr
 pub split_member : {T E : Type 0} (r : Result T E) (old new : Tasks) (x : Expr) (o : Expr) (n : Name) (o' : Expr) → x ≡ expr.Member o n → o' ≡ o → OnOk r (IsSplit old (of_expr o') (1 + weight.of_expr o') new) → OnOk r (IsSplit old (of_expr x) (weight.of_expr x) new)
 split_member r old new x o n o' e e_o s0 = as_one r old new (of_expr o') (of_expr x) (1 + weight.of_expr o') (weight.of_expr x) (ap of_expr e ∙ eq.member_marks o n ∙ ap (λ (z : Expr). of_expr z) (sym e_o)) (omega (arith, ap weight.of_expr e, eqw.member_weight o n, ap weight.of_expr e_o)) s0
 
-pub split_index : {T E : Type 0} (r : Result T E) (old mid1 new : Tasks) (x : Expr) (o : Expr) (k : Expr) (o' : Expr) (k' : Expr) → x ≡ expr.Index o k → o' ≡ o → k' ≡ k → IsSplit old (of_expr k') (1 + weight.of_expr k') mid1 → OnOk r (IsSplit mid1 (of_expr o') (1 + weight.of_expr o') new) → OnOk r (IsSplit old (of_expr x) (weight.of_expr x) new)
-split_index r old mid1 new x o k o' k' e e_o e_k s0 s1 = as_two r old mid1 new (of_expr k') (of_expr o') (of_expr x) (1 + weight.of_expr k') (1 + weight.of_expr o') (weight.of_expr x) (ap of_expr e ∙ eq.index_marks o k ∙ ap (λ (z : Expr). of_expr z ++ of_expr k) (sym e_o) ∙ ap (λ (z : Expr). of_expr o' ++ of_expr z) (sym e_k)) (omega (arith, ap weight.of_expr e, eqw.index_weight o k, ap weight.of_expr e_o, ap weight.of_expr e_k)) s0 s1
+pub split_index : {T E : Type 0} (r : Result T E) (old new : Tasks) (x : Expr) (o : Expr) (k : Expr) (o' : Expr) (k' : Expr) → x ≡ expr.Index o k → o' ≡ o → k' ≡ k → OnOk r (IsSplit old (of_expr o' ++ of_expr k') (2 + weight.of_expr o' + weight.of_expr k') new) → OnOk r (IsSplit old (of_expr x) (weight.of_expr x) new)
+split_index r old new x o k o' k' e e_o e_k s0 = as_one r old new (of_expr o' ++ of_expr k') (of_expr x) (2 + weight.of_expr o' + weight.of_expr k') (weight.of_expr x) (ap of_expr e ∙ eq.index_marks o k ∙ ap (λ (z : Expr). of_expr z ++ of_expr k) (sym e_o) ∙ ap (λ (z : Expr). of_expr o' ++ of_expr z) (sym e_k)) (omega (arith, ap weight.of_expr e, eqw.index_weight o k, ap weight.of_expr e_o, ap weight.of_expr e_k)) s0
 
 pub ruleset targets = (split_variable, split_field, split_item)
 

@@ -11,7 +11,7 @@ use Rattle.js_tree.specs.declared.tree.Function.{Function}
 use Rattle.js_tree.specs.declared.tree.Stmt.{Stmt}
 use Rattle.js_tree.specs.declared.tree.Stmt.TheVariants as stmt
 use Rattle.js_scope.specs.declared.fault.EarlyKind.TheVariants.{BreakOutside, ReturnOutside}
-use Rattle.js_scope.specs.declared.task.How.TheVariants as how
+use Rattle.js_scope.specs.declared.task.ScopeKind.TheVariants as how
 use Rattle.js_scope.specs.declared.task.Task.TheVariants as task
 use Rattle.js_scope.specs.Early.{Marks, Declares, word, concat, optional, named, scope, block, loop_body, finally_of, else_of, of_begin, of_catch, of_declaration, of_expr, of_function, of_stmt}
 use Rattle.js_scope.specs.Verdict.{IsSplit}
@@ -101,6 +101,12 @@ split_for_of r old new x k n n' v v' s s' e e_n e_v e_s a = as_one r old new (sc
     (ap of_stmt e ∙ eq.for_of_marks k n v s ∙ ap (λ (z : Name). scope (Declares z ∷ of_expr v ++ loop_body (of_stmt s))) (sym e_n) ∙ ap (λ (z : Expr). scope (Declares n' ∷ of_expr z ++ loop_body (of_stmt s))) (sym e_v) ∙ ap (λ (z : Stmt). scope (Declares n' ∷ of_expr v' ++ loop_body (of_stmt z))) (sym e_s))
     (omega (arith, ap weight.of_stmt e, eqw.for_of_weight k n v s, ap weight.of_expr e_v, ap weight.of_stmt e_s)) a
 
+pub on_if : {T E : Type 0} (r : Result T E) (old mid1 mid2 new : Tasks) (t : Expr) (b : Stmt) (o : Option Stmt) → IsSplit old (else_of (option_map of_stmt o)) (weight.optional (option_map weight.of_stmt o)) mid1 → IsSplit mid1 (scope (of_stmt b)) (weight.part (weight.of_stmt b)) mid2 → OnOk r (IsSplit mid2 (of_expr t) (1 + weight.of_expr t) new) → OnOk r (IsSplit old (of_expr t ++ scope (of_stmt b) ++ else_of (option_map of_stmt o)) (weight.part (weight.of_expr t) + weight.part (weight.of_stmt b) + weight.optional (option_map weight.of_stmt o)) new)
+on_if r old mid1 mid2 new t b o s0 s1 s2 = as_three r old mid1 mid2 new (else_of (option_map of_stmt o)) (scope (of_stmt b)) (of_expr t) (of_expr t ++ scope (of_stmt b) ++ else_of (option_map of_stmt o)) (weight.optional (option_map weight.of_stmt o)) (weight.part (weight.of_stmt b)) (1 + weight.of_expr t) (weight.part (weight.of_expr t) + weight.part (weight.of_stmt b) + weight.optional (option_map weight.of_stmt o)) refl (omega arith) s0 s1 s2
+
+pub on_try : {T E : Type 0} (r : Result T E) (old mid1 mid2 new : Tasks) (ss : List Stmt) (c : Option Catch) (f : Option (List Stmt)) → IsSplit old (finally_of (option_map (map of_stmt) f)) (weight.finally_of (option_map (map weight.of_stmt) f)) mid1 → IsSplit mid1 (optional (option_map of_catch c)) (weight.optional (option_map weight.of_catch c)) mid2 → OnOk r (IsSplit mid2 (block (map of_stmt ss)) (weight.part (weight.parts (map weight.of_stmt ss))) new) → OnOk r (IsSplit old (block (map of_stmt ss) ++ optional (option_map of_catch c) ++ finally_of (option_map (map of_stmt) f)) (weight.part (weight.parts (map weight.of_stmt ss)) + weight.optional (option_map weight.of_catch c) + weight.finally_of (option_map (map weight.of_stmt) f)) new)
+on_try r old mid1 mid2 new ss c f s0 s1 s2 = as_three r old mid1 mid2 new (finally_of (option_map (map of_stmt) f)) (optional (option_map of_catch c)) (block (map of_stmt ss)) (block (map of_stmt ss) ++ optional (option_map of_catch c) ++ finally_of (option_map (map of_stmt) f)) (weight.finally_of (option_map (map weight.of_stmt) f)) (weight.optional (option_map weight.of_catch c)) (weight.part (weight.parts (map weight.of_stmt ss))) (weight.part (weight.parts (map weight.of_stmt ss)) + weight.optional (option_map weight.of_catch c) + weight.finally_of (option_map (map weight.of_stmt) f)) refl (omega arith) s0 s1 s2
+
 pub split_nothing : (old : Tasks) (x : ForBegin) → x ≡ begin.Nothing → IsSplit old (of_begin x) (weight.of_begin x) old
 split_nothing old x e = as_none old (of_begin x) (weight.of_begin x) (ap of_begin e ∙ eq.nothing_marks)
 
@@ -119,8 +125,8 @@ split_declare_function r old mid1 new x n f n' f' e e_n e_f s0 s1 = as_two r old
 pub split_block : {T E : Type 0} (r : Result T E) (old new : Tasks) (x : Stmt) (ss : List Stmt) (ss' : List Stmt) → x ≡ stmt.Block ss → ss' ≡ ss → OnOk r (IsSplit old (block (map of_stmt ss')) (weight.part (weight.parts (map weight.of_stmt ss'))) new) → OnOk r (IsSplit old (of_stmt x) (weight.of_stmt x) new)
 split_block r old new x ss ss' e e_ss s0 = as_one r old new (block (map of_stmt ss')) (of_stmt x) (weight.part (weight.parts (map weight.of_stmt ss'))) (weight.of_stmt x) (ap of_stmt e ∙ eq.block_marks ss ∙ ap (λ (z : List Stmt). block (map of_stmt z)) (sym e_ss)) (omega (arith, ap weight.of_stmt e, eqw.block_weight ss, ap (λ (z : List Stmt). weight.parts (map weight.of_stmt z)) e_ss)) s0
 
-pub split_if : {T E : Type 0} (r : Result T E) (old mid1 mid2 new : Tasks) (x : Stmt) (t : Expr) (b : Stmt) (o : Option Stmt) (t' : Expr) (b' : Stmt) (o' : Option Stmt) → x ≡ stmt.If t b o → t' ≡ t → b' ≡ b → o' ≡ o → IsSplit old (else_of (option_map of_stmt o')) (weight.optional (option_map weight.of_stmt o')) mid1 → IsSplit mid1 (scope (of_stmt b')) (weight.part (weight.of_stmt b')) mid2 → OnOk r (IsSplit mid2 (of_expr t') (1 + weight.of_expr t') new) → OnOk r (IsSplit old (of_stmt x) (weight.of_stmt x) new)
-split_if r old mid1 mid2 new x t b o t' b' o' e e_t e_b e_o s0 s1 s2 = as_three r old mid1 mid2 new (else_of (option_map of_stmt o')) (scope (of_stmt b')) (of_expr t') (of_stmt x) (weight.optional (option_map weight.of_stmt o')) (weight.part (weight.of_stmt b')) (1 + weight.of_expr t') (weight.of_stmt x) (ap of_stmt e ∙ eq.if_marks t b o ∙ ap (λ (z : Expr). of_expr z ++ scope (of_stmt b) ++ else_of (option_map of_stmt o)) (sym e_t) ∙ ap (λ (z : Stmt). of_expr t' ++ scope (of_stmt z) ++ else_of (option_map of_stmt o)) (sym e_b) ∙ ap (λ (z : Option Stmt). of_expr t' ++ scope (of_stmt b') ++ else_of (option_map of_stmt z)) (sym e_o)) (omega (arith, ap weight.of_stmt e, eqw.if_weight t b o, ap weight.of_expr e_t, ap weight.of_stmt e_b, ap (λ (z : Option Stmt). weight.optional (option_map weight.of_stmt z)) e_o)) s0 s1 s2
+pub split_if : {T E : Type 0} (r : Result T E) (old new : Tasks) (x : Stmt) (t : Expr) (b : Stmt) (o : Option Stmt) (t' : Expr) (b' : Stmt) (o' : Option Stmt) → x ≡ stmt.If t b o → t' ≡ t → b' ≡ b → o' ≡ o → OnOk r (IsSplit old (of_expr t' ++ scope (of_stmt b') ++ else_of (option_map of_stmt o')) (weight.part (weight.of_expr t') + weight.part (weight.of_stmt b') + weight.optional (option_map weight.of_stmt o')) new) → OnOk r (IsSplit old (of_stmt x) (weight.of_stmt x) new)
+split_if r old new x t b o t' b' o' e e_t e_b e_o s0 = as_one r old new (of_expr t' ++ scope (of_stmt b') ++ else_of (option_map of_stmt o')) (of_stmt x) (weight.part (weight.of_expr t') + weight.part (weight.of_stmt b') + weight.optional (option_map weight.of_stmt o')) (weight.of_stmt x) (ap of_stmt e ∙ eq.if_marks t b o ∙ ap (λ (z : Expr). of_expr z ++ scope (of_stmt b) ++ else_of (option_map of_stmt o)) (sym e_t) ∙ ap (λ (z : Stmt). of_expr t' ++ scope (of_stmt z) ++ else_of (option_map of_stmt o)) (sym e_b) ∙ ap (λ (z : Option Stmt). of_expr t' ++ scope (of_stmt b') ++ else_of (option_map of_stmt z)) (sym e_o)) (omega (arith, ap weight.of_stmt e, eqw.if_weight t b o, ap weight.of_expr e_t, ap weight.of_stmt e_b, ap (λ (z : Option Stmt). weight.optional (option_map weight.of_stmt z)) e_o)) s0
 
 pub split_while : {T E : Type 0} (r : Result T E) (old mid1 new : Tasks) (x : Stmt) (t : Expr) (b : Stmt) (t' : Expr) (b' : Stmt) → x ≡ stmt.While t b → t' ≡ t → b' ≡ b → IsSplit old (loop_body (of_stmt b')) (weight.part (weight.of_stmt b')) mid1 → OnOk r (IsSplit mid1 (of_expr t') (1 + weight.of_expr t') new) → OnOk r (IsSplit old (of_stmt x) (weight.of_stmt x) new)
 split_while r old mid1 new x t b t' b' e e_t e_b s0 s1 = as_two r old mid1 new (loop_body (of_stmt b')) (of_expr t') (of_stmt x) (weight.part (weight.of_stmt b')) (1 + weight.of_expr t') (weight.of_stmt x) (ap of_stmt e ∙ eq.while_marks t b ∙ ap (λ (z : Expr). of_expr z ++ loop_body (of_stmt b)) (sym e_t) ∙ ap (λ (z : Stmt). of_expr t' ++ loop_body (of_stmt z)) (sym e_b)) (omega (arith, ap weight.of_stmt e, eqw.while_weight t b, ap weight.of_expr e_t, ap weight.of_stmt e_b)) s0 s1
@@ -137,8 +143,8 @@ split_return r old mid1 new x p v p' v' e e_p e_v s0 s1 = as_two r old mid1 new 
 pub split_throw : {T E : Type 0} (r : Result T E) (old new : Tasks) (x : Stmt) (v : Expr) (v' : Expr) → x ≡ stmt.Throw v → v' ≡ v → OnOk r (IsSplit old (of_expr v') (1 + weight.of_expr v') new) → OnOk r (IsSplit old (of_stmt x) (weight.of_stmt x) new)
 split_throw r old new x v v' e e_v s0 = as_one r old new (of_expr v') (of_stmt x) (1 + weight.of_expr v') (weight.of_stmt x) (ap of_stmt e ∙ eq.throw_marks v ∙ ap (λ (z : Expr). of_expr z) (sym e_v)) (omega (arith, ap weight.of_stmt e, eqw.throw_weight v, ap weight.of_expr e_v)) s0
 
-pub split_try : {T E : Type 0} (r : Result T E) (old mid1 mid2 new : Tasks) (x : Stmt) (ss : List Stmt) (c : Option Catch) (f : Option (List Stmt)) (ss' : List Stmt) (c' : Option Catch) (f' : Option (List Stmt)) → x ≡ stmt.Try ss c f → ss' ≡ ss → c' ≡ c → f' ≡ f → IsSplit old (finally_of (option_map (map of_stmt) f')) (weight.finally_of (option_map (map weight.of_stmt) f')) mid1 → IsSplit mid1 (optional (option_map of_catch c')) (weight.optional (option_map weight.of_catch c')) mid2 → OnOk r (IsSplit mid2 (block (map of_stmt ss')) (weight.part (weight.parts (map weight.of_stmt ss'))) new) → OnOk r (IsSplit old (of_stmt x) (weight.of_stmt x) new)
-split_try r old mid1 mid2 new x ss c f ss' c' f' e e_ss e_c e_f s0 s1 s2 = as_three r old mid1 mid2 new (finally_of (option_map (map of_stmt) f')) (optional (option_map of_catch c')) (block (map of_stmt ss')) (of_stmt x) (weight.finally_of (option_map (map weight.of_stmt) f')) (weight.optional (option_map weight.of_catch c')) (weight.part (weight.parts (map weight.of_stmt ss'))) (weight.of_stmt x) (ap of_stmt e ∙ eq.try_marks ss c f ∙ ap (λ (z : List Stmt). block (map of_stmt z) ++ optional (option_map of_catch c) ++ finally_of (option_map (map of_stmt) f)) (sym e_ss) ∙ ap (λ (z : Option Catch). block (map of_stmt ss') ++ optional (option_map of_catch z) ++ finally_of (option_map (map of_stmt) f)) (sym e_c) ∙ ap (λ (z : Option (List Stmt)). block (map of_stmt ss') ++ optional (option_map of_catch c') ++ finally_of (option_map (map of_stmt) z)) (sym e_f)) (omega (arith, ap weight.of_stmt e, eqw.try_weight ss c f, ap (λ (z : List Stmt). weight.parts (map weight.of_stmt z)) e_ss, ap (λ (z : Option Catch). weight.optional (option_map weight.of_catch z)) e_c, ap (λ (z : Option (List Stmt)). weight.finally_of (option_map (map weight.of_stmt) z)) e_f)) s0 s1 s2
+pub split_try : {T E : Type 0} (r : Result T E) (old new : Tasks) (x : Stmt) (ss : List Stmt) (c : Option Catch) (f : Option (List Stmt)) (ss' : List Stmt) (c' : Option Catch) (f' : Option (List Stmt)) → x ≡ stmt.Try ss c f → ss' ≡ ss → c' ≡ c → f' ≡ f → OnOk r (IsSplit old (block (map of_stmt ss') ++ optional (option_map of_catch c') ++ finally_of (option_map (map of_stmt) f')) (weight.part (weight.parts (map weight.of_stmt ss')) + weight.optional (option_map weight.of_catch c') + weight.finally_of (option_map (map weight.of_stmt) f')) new) → OnOk r (IsSplit old (of_stmt x) (weight.of_stmt x) new)
+split_try r old new x ss c f ss' c' f' e e_ss e_c e_f s0 = as_one r old new (block (map of_stmt ss') ++ optional (option_map of_catch c') ++ finally_of (option_map (map of_stmt) f')) (of_stmt x) (weight.part (weight.parts (map weight.of_stmt ss')) + weight.optional (option_map weight.of_catch c') + weight.finally_of (option_map (map weight.of_stmt) f')) (weight.of_stmt x) (ap of_stmt e ∙ eq.try_marks ss c f ∙ ap (λ (z : List Stmt). block (map of_stmt z) ++ optional (option_map of_catch c) ++ finally_of (option_map (map of_stmt) f)) (sym e_ss) ∙ ap (λ (z : Option Catch). block (map of_stmt ss') ++ optional (option_map of_catch z) ++ finally_of (option_map (map of_stmt) f)) (sym e_c) ∙ ap (λ (z : Option (List Stmt)). block (map of_stmt ss') ++ optional (option_map of_catch c') ++ finally_of (option_map (map of_stmt) z)) (sym e_f)) (omega (arith, ap weight.of_stmt e, eqw.try_weight ss c f, ap (λ (z : List Stmt). weight.parts (map weight.of_stmt z)) e_ss, ap (λ (z : Option Catch). weight.optional (option_map weight.of_catch z)) e_c, ap (λ (z : Option (List Stmt)). weight.finally_of (option_map (map weight.of_stmt) z)) e_f)) s0
 
 pub split_empty : (old : Tasks) (x : Stmt) → x ≡ stmt.Empty → IsSplit old (of_stmt x) (weight.of_stmt x) old
 split_empty old x e = as_none old (of_stmt x) (weight.of_stmt x) (ap of_stmt e ∙ eq.empty_marks)

@@ -45,7 +45,8 @@ abbrev pub stands : List ℕ → List (List ℕ) → Bool
 stands units names = list_any (pointwise nat_eq units) names
 
 -- what is seen from outside of a scope that has some names already: no name, and a fault at each name that stood before
--- (ECMA-262, sections 14.2.1, 15.2.1, 15.3.1, 15.4.1, 14.7.4.1, 14.15.1 and 16.1.1)
+-- (ECMA-262: declarations 14.3.1.1, blocks 14.2.1, `for` 14.7.5.1, `catch` 14.15.1, functions 15.2.1, arrows 15.3.1, methods 15.4.1, the
+-- top level 16.2.1.1)
 abbrev pub scope_from : List (List ℕ) → Marks → Marks
 scope_from names [] = []
 scope_from names (Declares n ∷ ms) = if stands n.units names then Faulty (fault DoubleName n.place) ∷ scope_from names ms else scope_from (n.units ∷ names) ms
@@ -55,7 +56,7 @@ scope_from names (Faulty f ∷ ms) = Faulty f ∷ scope_from names ms
 abbrev pub scope : Marks → Marks
 scope ms = scope_from [] ms
 
--- a loop allows `break` and `continue` in it (sections 14.8.1 and 14.9.1)
+-- a loop allows `break` and `continue` in it (ECMA-262, sections 14.8.1 and 14.9.1)
 abbrev pub loop_allows : EarlyKind → Bool
 loop_allows BreakOutside = true
 loop_allows DoubleName = false
@@ -70,7 +71,7 @@ through_loop (Faulty f) = Faulty f ∷ []
 abbrev pub loop : Marks → Marks
 loop ms = flat_map through_loop ms
 
--- a function allows `return` in it, and `await` if it is async (sections 14.10 and 15.8); what it does not allow, nothing around it allows
+-- a function allows `return` in it, and `await` if it is async (ECMA-262, sections 14.10 and 15.8); what it does not allow, nothing around it allows
 abbrev pub function_allows : Bool → EarlyKind → Bool
 function_allows is_async ReturnOutside = true
 function_allows is_async AwaitOutside = is_async

@@ -8,8 +8,8 @@ use Rattle.js_scope.specs.declared.fault.EarlyKind.{EarlyKind}
 use Rattle.js_scope.specs.declared.fault.EarlyKind.TheVariants.{DoubleName, ReturnOutside, AwaitOutside, BreakOutside}
 use Rattle.js_scope.specs.declared.scope.Around.{Around}
 use Rattle.js_scope.specs.declared.scope.Scope.{Scope}
-use Rattle.js_scope.specs.declared.task.How.{How}
-use Rattle.js_scope.specs.declared.task.How.TheVariants as how
+use Rattle.js_scope.specs.declared.task.ScopeKind.{ScopeKind}
+use Rattle.js_scope.specs.declared.task.ScopeKind.TheVariants as how
 use Rattle.js_scope.specs.declared.task.Piece.{Piece}
 use Rattle.js_scope.specs.declared.task.Piece.TheVariants as piece
 use Rattle.js_scope.specs.declared.task.Task.{Task}
@@ -26,12 +26,12 @@ allows a ReturnOutside = a.in_function
 allows a AwaitOutside = a.is_async
 allows a BreakOutside = a.in_loop
 
-abbrev pub around_in : How → Around → Around
+abbrev pub around_in : ScopeKind → Around → Around
 around_in how.Block a = a
 around_in how.Loop a = record { in_function = a.in_function; is_async = a.is_async; in_loop = true }
 around_in (how.Function is_async) a = record { in_function = true; is_async = is_async; in_loop = false }
 
-abbrev pub entered : How → Scope → Scope
+abbrev pub entered : ScopeKind → Scope → Scope
 entered h s = record { names = []; around = around_in h s.around }
 
 abbrev pub nothing_around : Around
@@ -69,7 +69,7 @@ judge s (m ∷ ms) = and_then (judge_mark s m) (λ t. judge t ms)
 -- ---- what is still to do
 
 -- what is seen of these marks from outside of the scope that they stand in
-abbrev pub inside : How → Marks → Marks
+abbrev pub inside : ScopeKind → Marks → Marks
 inside how.Block ms = scope ms
 inside how.Loop ms = loop_body ms
 inside (how.Function is_async) ms = function is_async (scope ms)

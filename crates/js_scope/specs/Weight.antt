@@ -1,4 +1,5 @@
--- The weight of each form of a script: three for each of its parts, and the weights of the parts.
+-- The weight of each form of a script: three for each of its parts, and the weights of the parts. A walk that goes through a part, and
+-- enters and leaves a scope for it, comes to its end, since each step takes the weight of what is left down.
 use Rattle.std.specs.Prelude.{ℕ, ◌+◌, List, [], ◌∷◌, map, Option, Some, None}
 use Rattle.js_tree.specs.declared.tree.Name.{Name}
 use Rattle.js_tree.specs.declared.tree.Item.{Item}

@@ -22,6 +22,7 @@ pub struct EarlyFault {
 /// Why a script is not accepted.
 #[derive(Clone, Copy, Debug, PartialEq, Eq)]
 pub enum EarlyEnd {
+    /// the first early fault in the order of the text
     Fault(EarlyFault),
     NoMemory,
 }

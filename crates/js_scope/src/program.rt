@@ -43,8 +43,8 @@ impl Program {
 }
 
 /// The script as a program, or its first early fault in the order of the text (ECMA-262, sections
-/// 14.2.1, 14.7.4.1, 14.7.5.1, 14.8.1, 14.9.1, 14.10, 14.15.1, 15.2.1 and 15.8; `docs/SCRIPTS.md`
-/// has the scopes). The walk takes near linear time and keeps its place in memory of its own, and
+/// 14.2.1, 14.3.1.1, 14.7.5.1, 14.8.1, 14.9.1, 14.10, 14.15.1, 15.2.1, 15.3.1, 15.4.1, 15.8 and
+/// 16.2.1.1; `docs/SCRIPTS.md` has the scopes). The error is that fault, or want of memory. The walk takes near linear time and keeps its place in memory of its own, and
 /// not on the machine's stack.
 pub fn resolve(alloc: Global, tree: Tree) -> Result<Program, EarlyEnd>
     ensures tree { IfOk result (λ program. program ≡ tree) }

@@ -3,7 +3,7 @@ ghost use Rattle.js_scope.specs.Verdict.{top_scope, allows, around_in, entered, 
 
 use crate::fault::{EarlyEnd, EarlyFault, EarlyKind};
 use crate::names::Names;
-use crate::task::How;
+use crate::task::ScopeKind;
 use js_tree::Name;
 use std::alloc::Global;
 use wd_base::NoMemory;
@@ -29,17 +29,17 @@ impl Around {
         }
     }
 
-    fn inside(self, how: How) -> Around
+    fn inside(self, how: ScopeKind) -> Around
         ensures { result ≡ around_in how self }
     {
         match how {
-            How::Block => self,
-            How::Loop => Around {
+            ScopeKind::Block => self,
+            ScopeKind::Loop => Around {
                 in_function: self.in_function,
                 is_async: self.is_async,
                 in_loop: true,
             },
-            How::Function(is_async) => Around {
+            ScopeKind::Function(is_async) => Around {
                 in_function: true,
                 is_async,
                 in_loop: false,
@@ -71,7 +71,7 @@ impl<'a> Scope<'a> {
     }
 
     /// The scope within this one that is opened so. It takes no memory.
-    pub(crate) fn entered(&self, alloc: Global, how: How) -> Scope<'a>
+    pub(crate) fn entered(&self, alloc: Global, how: ScopeKind) -> Scope<'a>
         ensures { result ≡ entered how self.now }
     {
         Scope {

@@ -1,11 +1,11 @@
-ghost use Rattle.std.specs.Prelude.{◌+◌, [], ◌∷◌, OnOk};
+ghost use Rattle.std.specs.Prelude.{◌+◌, [], ◌∷◌, ◌++◌, OnOk};
 ghost use Rattle.js_scope.specs.Early as early;
 ghost use Rattle.js_scope.specs.Weight as weight;
 ghost use Rattle.js_scope.specs.Verdict.{IsSplit, piece_marks, piece_weight};
 
 use crate::fault::{EarlyFault, EarlyKind};
 use crate::stack::Stack;
-use crate::task::{How, Piece, Task};
+use crate::task::{ScopeKind, Piece, Task};
 use js_tree::{ArrowBody, Expr, Function, Name, Target};
 use wd_base::NoMemory;
 
@@ -28,6 +28,19 @@ pub(crate) fn put_word<'a>(
     put(tasks, Piece::Word(EarlyFault { kind, place }))
 }
 
+/// Puts two expressions on the tasks, the first one on top.
+#[tactic(auto, using(crate::proofs::Splits::on_two))]
+fn put_two<'a>(
+    tasks: &mut Stack<Task<'a>>,
+    first: &'a Expr,
+    second: &'a Expr,
+) -> Result<(), NoMemory>
+    ensures { OnOk result (IsSplit tasks.old (early.of_expr first.now ++ early.of_expr second.now) (2 + weight.of_expr first.now + weight.of_expr second.now) tasks.new) }
+{
+    put(tasks, Piece::Expr(second))?;
+    put(tasks, Piece::Expr(first))
+}
+
 /// Puts a target on the tasks.
 #[tactic(auto, using(crate::proofs::Splits::targets))]
 fn put_target<'a>(tasks: &mut Stack<Task<'a>>, target: &'a Target) -> Result<(), NoMemory>
@@ -36,10 +49,7 @@ fn put_target<'a>(tasks: &mut Stack<Task<'a>>, target: &'a Target) -> Result<(),
     match target {
         Target::Variable(_) => Ok(()),
         Target::Field(object, _) => put(tasks, Piece::Expr(object.get())),
-        Target::Item(object, key) => {
-            put(tasks, Piece::Expr(key.get()))?;
-            put(tasks, Piece::Expr(object.get()))
-        }
+        Target::Item(object, key) => put_two(tasks, object.get(), key.get()),
     }
 }
 
@@ -54,7 +64,7 @@ pub(crate) fn put_function<'a>(
     tasks.push(Task::Leave)?;
     put(tasks, Piece::Stmts(function.body.as_slice()))?;
     put(tasks, Piece::Names(function.parameters.as_slice()))?;
-    tasks.push(Task::Enter(How::Function(function.is_async)))
+    tasks.push(Task::Enter(ScopeKind::Function(function.is_async)))
 }
 
 /// Puts the body of an arrow on the tasks.
@@ -80,7 +90,7 @@ fn put_arrow<'a>(
     tasks.push(Task::Leave)?;
     put_arrow_body(tasks, body)?;
     put(tasks, Piece::Names(parameters))?;
-    tasks.push(Task::Enter(How::Function(is_async)))
+    tasks.push(Task::Enter(ScopeKind::Function(is_async)))
 }
 
 /// Puts the parts of an expression on the tasks.
@@ -112,14 +122,10 @@ pub(crate) fn split_expr<'a>(tasks: &mut Stack<Task<'a>>, expr: &'a Expr) -> Res
             put_word(tasks, EarlyKind::AwaitOutside, *place)
         }
         Expr::Update(_, _, target) => put_target(tasks, target),
-        Expr::Binary(_, left, right) => {
-            put(tasks, Piece::Expr(right.get()))?;
-            put(tasks, Piece::Expr(left.get()))
-        }
+        Expr::Binary(_, left, right) => put_two(tasks, left.get(), right.get()),
         Expr::Conditional(test, yes, no) => {
             put(tasks, Piece::Expr(no.get()))?;
-            put(tasks, Piece::Expr(yes.get()))?;
-            put(tasks, Piece::Expr(test.get()))
+            put_two(tasks, test.get(), yes.get())
         }
         Expr::Assign(_, target, value) => {
             put(tasks, Piece::Expr(value.get()))?;
@@ -131,9 +137,6 @@ pub(crate) fn split_expr<'a>(tasks: &mut Stack<Task<'a>>, expr: &'a Expr) -> Res
         }
         Expr::New(_, arguments) => put(tasks, Piece::Exprs(arguments.as_slice())),
         Expr::Member(object, _) => put(tasks, Piece::Expr(object.get())),
-        Expr::Index(object, key) => {
-            put(tasks, Piece::Expr(key.get()))?;
-            put(tasks, Piece::Expr(object.get()))
-        }
+        Expr::Index(object, key) => put_two(tasks, object.get(), key.get()),
     }
 }

@@ -7,14 +7,14 @@ use crate::fault::EarlyKind;
 use crate::lists::put_optional;
 use crate::split::{put, put_function, put_word};
 use crate::stack::Stack;
-use crate::task::{How, Piece, Task};
+use crate::task::{ScopeKind, Piece, Task};
 use js_tree::{Catch, Expr, ForBegin, Name, Stmt};
 use sqlite_items::Boxed;
 use wd_base::{NoMemory, Seq};
 
 /// Puts statements on the tasks that stand in a scope of their own.
 #[tactic(auto, using(crate::proofs::Splits::on_block))]
-fn put_block<'a>(tasks: &mut Stack<Task<'a>>, how: How, stmts: &'a [Stmt]) -> Result<(), NoMemory>
+fn put_block<'a>(tasks: &mut Stack<Task<'a>>, how: ScopeKind, stmts: &'a [Stmt]) -> Result<(), NoMemory>
     ensures { OnOk result (IsSplit tasks.old (inside how (early.concat (map early.of_stmt stmts.now))) (weight.part (weight.parts (map weight.of_stmt stmts.now))) tasks.new) }
 {
     tasks.push(Task::Leave)?;
@@ -24,7 +24,7 @@ fn put_block<'a>(tasks: &mut Stack<Task<'a>>, how: How, stmts: &'a [Stmt]) -> Re
 
 /// Puts a statement on the tasks that stands in a scope of its own.
 #[tactic(auto, using(crate::proofs::Splits::on_body))]
-fn put_body<'a>(tasks: &mut Stack<Task<'a>>, how: How, stmt: &'a Stmt) -> Result<(), NoMemory>
+fn put_body<'a>(tasks: &mut Stack<Task<'a>>, how: ScopeKind, stmt: &'a Stmt) -> Result<(), NoMemory>
     ensures { OnOk result (IsSplit tasks.old (inside how (early.of_stmt stmt.now)) (weight.part (weight.of_stmt stmt.now)) tasks.new) }
 {
     tasks.push(Task::Leave)?;
@@ -39,7 +39,7 @@ fn put_else<'a>(tasks: &mut Stack<Task<'a>>, stmt: &'a Option<Boxed<Stmt>>) -> R
 {
     match stmt {
         None => Ok(()),
-        Some(stmt) => put_body(tasks, How::Block, stmt.get()),
+        Some(stmt) => put_body(tasks, ScopeKind::Block, stmt.get()),
     }
 }
 
@@ -69,11 +69,11 @@ fn put_for<'a>(
     ensures { OnOk result (IsSplit tasks.old (early.scope (early.of_begin begin.now ++ early.optional (option_map early.of_expr test.now) ++ early.optional (option_map early.of_expr update.now) ++ early.loop_body (early.of_stmt body.now))) (weight.part (weight.of_begin begin.now) + weight.optional (option_map weight.of_expr test.now) + weight.optional (option_map weight.of_expr update.now) + weight.part (weight.of_stmt body.now)) tasks.new) }
 {
     tasks.push(Task::Leave)?;
-    put_body(tasks, How::Loop, body)?;
+    put_body(tasks, ScopeKind::Loop, body)?;
     put_optional(tasks, update)?;
     put_optional(tasks, test)?;
     put_begin(tasks, begin)?;
-    tasks.push(Task::Enter(How::Block))
+    tasks.push(Task::Enter(ScopeKind::Block))
 }
 
 /// Puts a `for` of `of` on the tasks.
@@ -87,10 +87,10 @@ fn put_for_of<'a>(
     ensures { OnOk result (IsSplit tasks.old (early.scope (early.Declares name.now ∷ early.of_expr value.now ++ early.loop_body (early.of_stmt body.now))) (weight.part 0 + weight.part (weight.of_expr value.now) + weight.part (weight.of_stmt body.now)) tasks.new) }
 {
     tasks.push(Task::Leave)?;
-    put_body(tasks, How::Loop, body)?;
+    put_body(tasks, ScopeKind::Loop, body)?;
     put(tasks, Piece::Expr(value))?;
     put(tasks, Piece::Declares(name))?;
-    tasks.push(Task::Enter(How::Block))
+    tasks.push(Task::Enter(ScopeKind::Block))
 }
 
 /// Puts a declared name on the tasks, where there is one.
@@ -112,7 +112,7 @@ fn put_caught<'a>(tasks: &mut Stack<Task<'a>>, catch: &'a Catch) -> Result<(), N
     tasks.push(Task::Leave)?;
     put(tasks, Piece::Stmts(catch.body.as_slice()))?;
     put_name(tasks, &catch.name)?;
-    tasks.push(Task::Enter(How::Block))
+    tasks.push(Task::Enter(ScopeKind::Block))
 }
 
 /// Puts a `catch` on the tasks, where there is one.
@@ -136,8 +136,38 @@ fn put_finally<'a>(
 {
     match stmts {
         None => Ok(()),
-        Some(stmts) => put_block(tasks, How::Block, stmts.as_slice()),
+        Some(stmts) => put_block(tasks, ScopeKind::Block, stmts.as_slice()),
     }
+}
+
+/// Puts an `if` on the tasks.
+#[tactic(auto, using(crate::proofs::StmtSplits::on_if))]
+fn put_if<'a>(
+    tasks: &mut Stack<Task<'a>>,
+    test: &'a Expr,
+    yes: &'a Stmt,
+    no: &'a Option<Boxed<Stmt>>,
+) -> Result<(), NoMemory>
+    ensures { OnOk result (IsSplit tasks.old (early.of_expr test.now ++ early.scope (early.of_stmt yes.now) ++ early.else_of (option_map early.of_stmt no.now)) (weight.part (weight.of_expr test.now) + weight.part (weight.of_stmt yes.now) + weight.optional (option_map weight.of_stmt no.now)) tasks.new) }
+{
+    put_else(tasks, no)?;
+    put_body(tasks, ScopeKind::Block, yes)?;
+    put(tasks, Piece::Expr(test))
+}
+
+/// Puts a `try` on the tasks.
+#[tactic(auto, using(crate::proofs::StmtSplits::on_try))]
+fn put_try<'a>(
+    tasks: &mut Stack<Task<'a>>,
+    body: &'a [Stmt],
+    catch: &'a Option<Catch>,
+    finally: &'a Option<Seq<Stmt>>,
+) -> Result<(), NoMemory>
+    ensures { OnOk result (IsSplit tasks.old (early.block (map early.of_stmt body.now) ++ early.optional (option_map early.of_catch catch.now) ++ early.finally_of (option_map (map early.of_stmt) finally.now)) (weight.part (weight.parts (map weight.of_stmt body.now)) + weight.optional (option_map weight.of_catch catch.now) + weight.finally_of (option_map (map weight.of_stmt) finally.now)) tasks.new) }
+{
+    put_finally(tasks, finally)?;
+    put_catch(tasks, catch)?;
+    put_block(tasks, ScopeKind::Block, body)
 }
 
 /// Puts the parts of a statement on the tasks.
@@ -153,12 +183,8 @@ pub(crate) fn split_stmt<'a>(tasks: &mut Stack<Task<'a>>, stmt: &'a Stmt) -> Res
             put_function(tasks, function)?;
             put(tasks, Piece::Declares(name))
         }
-        Stmt::Block(stmts) => put_block(tasks, How::Block, stmts.as_slice()),
-        Stmt::If(test, yes, no) => {
-            put_else(tasks, no)?;
-            put_body(tasks, How::Block, yes.get())?;
-            put(tasks, Piece::Expr(test))
-        }
+        Stmt::Block(stmts) => put_block(tasks, ScopeKind::Block, stmts.as_slice()),
+        Stmt::If(test, yes, no) => put_if(tasks, test, yes.get(), no),
         Stmt::For {
             begin,
             test,
@@ -172,7 +198,7 @@ pub(crate) fn split_stmt<'a>(tasks: &mut Stack<Task<'a>>, stmt: &'a Stmt) -> Res
             ..
         } => put_for_of(tasks, name, value, body.get()),
         Stmt::While(test, body) => {
-            put_body(tasks, How::Loop, body.get())?;
+            put_body(tasks, ScopeKind::Loop, body.get())?;
             put(tasks, Piece::Expr(test))
         }
         Stmt::Break(place) => put_word(tasks, EarlyKind::BreakOutside, *place),
@@ -186,11 +212,7 @@ pub(crate) fn split_stmt<'a>(tasks: &mut Stack<Task<'a>>, stmt: &'a Stmt) -> Res
             body,
             catch,
             finally,
-        } => {
-            put_finally(tasks, finally)?;
-            put_catch(tasks, catch)?;
-            put_block(tasks, How::Block, body.as_slice())
-        }
+        } => put_try(tasks, body.as_slice(), catch, finally),
         Stmt::Empty => Ok(()),
         Stmt::Expr(expr) => put(tasks, Piece::Expr(expr)),
     }

@@ -3,7 +3,7 @@ use js_tree::{Declaration, Expr, Name, Property, Stmt, TemplateItem};
 
 /// What opens a scope.
 #[derive(Clone, Copy)]
-pub(crate) enum How {
+pub(crate) enum ScopeKind {
     /// a block, a `for` or a `catch`
     Block,
     /// the body of a loop
@@ -33,7 +33,7 @@ pub(crate) enum Piece<'a> {
 /// What a walk has to do: enter a scope, leave it, or go through a piece.
 #[derive(Clone, Copy)]
 pub(crate) enum Task<'a> {
-    Enter(How),
+    Enter(ScopeKind),
     Leave,
     Piece(Piece<'a>),
 }

@@ -11,7 +11,7 @@ use crate::scope::Scope;
 use crate::split::{put, split_expr};
 use crate::stack::Stack;
 use crate::stmts::split_stmt;
-use crate::task::{How, Piece, Task};
+use crate::task::{ScopeKind, Piece, Task};
 use js_tree::Item;
 use std::alloc::Global;
 use wd_base::NoMemory;
@@ -25,7 +25,7 @@ struct Walk<'a> {
 }
 
 /// Enters a scope.
-fn enter<'a>(alloc: Global, walk: &mut Walk<'a>, how: How) -> Result<(), EarlyEnd>
+fn enter<'a>(alloc: Global, walk: &mut Walk<'a>, how: ScopeKind) -> Result<(), EarlyEnd>
     ensures fault { Goes (verdict walk.old.tasks (entered how walk.old.scope) (walk.old.scope ∷ walk.old.outer)) (verdict walk.new.tasks walk.new.scope walk.new.outer) result }
     ensures tasks { walk.new.tasks ≡ walk.old.tasks }
 {
