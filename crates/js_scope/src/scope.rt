@@ -1,4 +1,5 @@
-ghost use Rattle.std.specs.Prelude.{◌≡◌, [], OnOk};
+ghost use Rattle.std.specs.Prelude.{◌≡◌, [], Err, OnOk};
+ghost use Rattle.js_scope.specs.declared.fault.EarlyEnd.TheVariants as ends;
 ghost use Rattle.js_scope.specs.Verdict.{top_scope, allows, around_in, entered, judge_name, judge_word, Judges};
 
 use crate::fault::{EarlyEnd, EarlyFault, EarlyKind};
@@ -94,9 +95,10 @@ impl<'a> Scope<'a> {
         }
     }
 
-    /// Refuses a word that nothing around allows.
+    /// Refuses a word that nothing around allows. It takes no memory.
     pub(crate) fn check(&self, word: EarlyFault) -> Result<(), EarlyEnd>
-        ensures { Judges (judge_word self.now word) self.now result }
+        ensures judged { Judges (judge_word self.now word) self.now result }
+        ensures certain { result ≡ Err ends.NoMemory → ⊥ }
     {
         if self.around.allows(word.kind) {
             Ok(())
