@@ -1,4 +1,4 @@
-ghost use Rattle.std.specs.Prelude.{◌≡◌, [], Err, OnOk};
+ghost use Rattle.std.specs.Prelude.{◌≡◌, Err};
 ghost use Rattle.js_scope.specs.declared.fault.EarlyEnd.TheVariants as ends;
 ghost use Rattle.js_scope.specs.Verdict.{top_scope, allows, around_in, entered, judge_name, judge_word, Judges};
 

@@ -5,7 +5,7 @@ ghost use Rattle.js_scope.specs.Verdict.{IsSplit, piece_marks, piece_weight};
 
 use crate::fault::{EarlyFault, EarlyKind};
 use crate::stack::Stack;
-use crate::task::{ScopeKind, Piece, Task};
+use crate::task::{Piece, ScopeKind, Task};
 use js_tree::{ArrowBody, Expr, Function, Name, Target};
 use wd_base::NoMemory;
 

@@ -7,14 +7,18 @@ use crate::fault::EarlyKind;
 use crate::lists::put_optional;
 use crate::split::{put, put_function, put_word};
 use crate::stack::Stack;
-use crate::task::{ScopeKind, Piece, Task};
+use crate::task::{Piece, ScopeKind, Task};
 use js_tree::{Catch, Expr, ForBegin, Name, Stmt};
 use sqlite_items::Boxed;
 use wd_base::{NoMemory, Seq};
 
 /// Puts statements on the tasks that stand in a scope of their own.
 #[tactic(auto, using(crate::proofs::Splits::on_block))]
-fn put_block<'a>(tasks: &mut Stack<Task<'a>>, how: ScopeKind, stmts: &'a [Stmt]) -> Result<(), NoMemory>
+fn put_block<'a>(
+    tasks: &mut Stack<Task<'a>>,
+    how: ScopeKind,
+    stmts: &'a [Stmt],
+) -> Result<(), NoMemory>
     ensures { OnOk result (IsSplit tasks.old (inside how (early.concat (map early.of_stmt stmts.now))) (weight.part (weight.parts (map weight.of_stmt stmts.now))) tasks.new) }
 {
     tasks.push(Task::Leave)?;

@@ -11,7 +11,7 @@ use crate::scope::Scope;
 use crate::split::{put, split_expr};
 use crate::stack::Stack;
 use crate::stmts::split_stmt;
-use crate::task::{ScopeKind, Piece, Task};
+use crate::task::{Piece, ScopeKind, Task};
 use js_tree::Item;
 use std::alloc::Global;
 use wd_base::NoMemory;
