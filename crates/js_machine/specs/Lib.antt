@@ -1,0 +1,10 @@
+pub mod Tokens
+pub mod Outer
+pub mod Begin
+pub mod Objects
+pub mod Statements
+pub mod Values
+pub mod Expressions
+pub mod Machine
+pub mod Told
+pub mod Answer
