@@ -30,7 +30,7 @@ use Rattle.js_laws.proofs.Readings.{token, token_of, is_proper, closes, kind_clo
 use Rattle.js_laws.proofs.Folding.{follows, behind_ends, tight}
 use Rattle.js_laws.proofs.FirstTokens.{Then, ThenAt, then_just, then_spelt_at, go}
 use Rattle.js_laws.proofs.Operands.{is_async_name, is_bare, Ready, Next, Stands, ReadsOperand, operand_at, waiting_at, level_small, stands_operand}
-use Rattle.js_laws.proofs.Equations.{written_member, written_index}
+use Rattle.js_grammar.proofs.Equations.{written_member, written_index}
 use Rattle.js_laws.proofs.ShapeEquations.{shape_member, shape_index}
 
 -- ---- whole values

@@ -1,5 +1,4 @@
 pub mod Pieces
-pub mod Equations
 pub mod ShapeEquations
 pub mod UniqueForms
 pub mod UniqueGrammar

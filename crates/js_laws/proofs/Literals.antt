@@ -32,7 +32,7 @@ use Rattle.js_laws.proofs.FirstTokens.{Then, ThenAt, then_just, then_at, go, fir
 use Rattle.js_laws.proofs.Operands.{ReadsOperand, operand_at, waiting_at, stands_operand, reads_token}
 use Rattle.js_laws.proofs.Words.{both}
 use Rattle.js_laws.proofs.Chains.{value_of, value_waits}
-use Rattle.js_laws.proofs.Equations.{written_template, written_object, written_function_expr, written_function, written_part}
+use Rattle.js_grammar.proofs.Equations.{written_template, written_object, written_function_expr, written_function, written_part}
 use Rattle.js_laws.proofs.ShapeEquations.{shape_template, shape_object, shape_function_expr, shape_part}
 
 -- ---- templates
