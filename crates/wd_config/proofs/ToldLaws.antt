@@ -9,7 +9,7 @@ use Rattle.capnp_text.specs.declared.tree.Placed.{Placed}
 use Rattle.capnp_text.specs.declared.tree.Value.{Value}
 use Rattle.capnp_text.specs.declared.tree.Field.{Field}
 use Rattle.capnp_text.specs.declared.tree.Decl.{Decl}
-use Rattle.wd_config.specs.declared.faults.ConfigKind.TheVariants as kind
+use Rattle.wd_config.specs.declared.faults.RefusedKind.TheVariants as kind
 use Rattle.wd_config.specs.declared.schema.Leaf.{Leaf}
 use Rattle.wd_config.specs.declared.schema.ListKind.{ListKind}
 use Rattle.wd_config.specs.declared.schema.StructKind.{StructKind}
@@ -22,9 +22,9 @@ use Rattle.wd_config.specs.declared.lists.Listed.{Listed}
 use Rattle.wd_config.specs.declared.items.Entry.{Entry}
 use Rattle.wd_config.specs.Answer.{Answers}
 use Rattle.wd_config.specs.Configured.{Rooted, chosen, config_in, configured, declared, imports, no_tables, root, rooted_config, types}
-use Rattle.wd_config.specs.Given.{Given}
+use Rattle.wd_config.specs.Given.{Given, fault}
 use Rattle.wd_config.specs.Names.{Names}
-use Rattle.wd_config.specs.Reading.{Answer, Found, Refused, Untold, Read, then_read, done, given, refuse, along, ◌>>=◌}
+use Rattle.wd_config.specs.Reading.{Answer, Found, Refused, Untold, Read, then_read, done, given, along, ◌>>=◌}
 use Rattle.wd_config.specs.Values.{Context, Reader, InPlace, allowed, as_data, as_embed, as_list, as_struct, as_text, bare, bared, checked, data_for, entry, field_step, file_for, full_path, in_place, is_left_out, item_shape, item_step, leaf_item, listed, most_levels, load, load_at, loaded, place_of, shaped, source, sourced, structured, utf8_of, value_item, with_item, with_name, empty_list}
 
 -- the answer is told
@@ -99,7 +99,7 @@ all_told read label k vs h = bind_told {A = Listed} {B = Item} (along (item_step
 
 listed_told : (read : Reader) (label : Placed) (k : ListKind) (p : ℕ) (vs : Option (List Value)) → ReadsTold read → IsTold (listed read label k p vs)
 listed_told read label k p None h = refl
-listed_told read label k p (Some vs) h = pick_told (is_left_out k vs) (refuse kind.LeftOut label.place label.bytes) (along (item_step read label k) (no_items k) vs >>= λ made. done made.items) refl (all_told read label k vs h)
+listed_told read label k p (Some vs) h = pick_told (is_left_out k vs) (given (fault kind.LeftOut label.place label.bytes)) (along (item_step read label k) (no_items k) vs >>= λ made. done made.items) refl (all_told read label k vs h)
 
 field_told : (read : Reader) (taken : Names) (k : StructKind) (es : List Entry) (f : Field) → ReadsTold read → IsTold (field_step read taken k es f)
 field_told read taken k es f h =
