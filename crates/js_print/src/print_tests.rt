@@ -110,12 +110,10 @@ fn a_tree_has_this_text(rt: HostRuntime) -> Result<(), Fail> {
             b"export default { async delete ( x , ) { return ; } , } ; ; ",
         ),
     ];
-    let mut rest = rows.as_slice();
-    while let [row, others @ ..] = rest {
+    for row in rows.as_slice() {
         let expected = units_of(alloc, row.1)?;
         let text = print(alloc, &row.0)?;
         assert_eq!(rt; text.as_slice(), expected.as_slice());
-        rest = others;
     }
     Ok(())
 }

@@ -48,12 +48,10 @@ fn a_token_has_this_text(rt: HostRuntime) -> Result<(), Fail> {
         (TokenKind::Punctuator(Punctuator::Arrow), b"a=>"),
         (TokenKind::End, b"a"),
     ];
-    let mut rest = rows.as_slice();
-    while let [row, others @ ..] = rest {
+    for row in rows.as_slice() {
         let expected = units_of(alloc, row.1)?;
         let text = written(alloc, &row.0)?;
         assert_eq!(rt; text.as_slice(), expected.as_slice());
-        rest = others;
     }
     Ok(())
 }
