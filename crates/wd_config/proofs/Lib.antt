@@ -18,3 +18,4 @@ pub mod ValueLaws
 pub mod ConfiguredLaws
 pub mod ToldLaws
 pub mod SoundLaws
+pub mod RoomLaws

@@ -1,9 +1,9 @@
 -- What is read is sound.
-use Rattle.std.specs.Prelude.{◌≡◌, ◌&&◌, not, ℕ, Bool, true, false, cond, List, [], ◌∷◌, ◌++◌, map, Option, Some, None, Result, Ok, Err, IfSome, IfOk, codes, refl}
-use Rattle.std.proofs.Common.{sym, ap, subst, ◌∙◌}
+use Rattle.std.specs.Prelude.{◌≡◌, ◌<◌, ◌≤◌, ◌+◌, ◌^◌, zero, suc, length, not, ℕ, Bool, true, false, cond, List, [], ◌∷◌, ◌++◌, map, Option, Some, None, Result, Ok, Err, IfSome, IfOk, codes, refl}
+use Rattle.std.proofs.Common.{sym, ap, subst, ◌∙◌, arith}
 use Rattle.std.specs.Str.{bytes_eq, is_utf8}
 use Rattle.std.proofs.lemmas.Bool.{false≢true}
-use Rattle.std.proofs.lemmas.List.{map-append}
+use Rattle.std.proofs.lemmas.List.{length-append, map-append}
 use Rattle.wd_base.specs.declared.config.Config.{Config}
 use Rattle.wd_base.specs.declared.config.Kind.{Kind}
 use Rattle.wd_base.specs.declared.config.Service.{Service}
@@ -28,13 +28,15 @@ use Rattle.wd_config.specs.declared.schema.StructKind.{StructKind}
 use Rattle.wd_config.specs.declared.schema.StructKind.TheVariants as struct
 use Rattle.wd_config.specs.declared.schema.WordKind.{WordKind}
 use Rattle.wd_config.specs.Answer.{Differ}
+use Rattle.wd_config.specs.Deep.{deep, list_deep, struct_deep}
 use Rattle.wd_config.specs.Build.{built, needed, text_of, kind_of, services_of, sockets_of}
 use Rattle.wd_config.specs.Configured.{config_in}
 use Rattle.wd_config.specs.Given.{Given, Gives, fault, ◌>>=◌}
 use Rattle.wd_config.specs.Items.{item_of}
 use Rattle.wd_config.specs.Names.{Names, has_name, put}
-use Rattle.wd_config.specs.Schema.{Row, rule_in, rule_of, same_slot, config_rows, service_rows}
-use Rattle.wd_config.specs.Sound.{Apart, ApartConfig, ApartServices, FreeService, FreeText, IsFree, Sound, SoundFields, SoundItems, TakenServices, names_of}
+use Rattle.wd_config.specs.Room.{most_bytes}
+use Rattle.wd_config.specs.Schema.{Row, rule_in, rule_of, same_slot, rows, config_rows, service_rows}
+use Rattle.wd_config.specs.Sound.{Apart, AreSound, ApartConfig, ApartServices, FreeService, FreeText, IsFree, Sound, SoundFields, SoundItems, TakenServices, names_of}
 use Rattle.wd_config.specs.Values.{allowed, allowed_by, bare, checked, empty_list, entry, item_shape, with_item, with_name, wrong}
 use Rattle.wd_config.proofs.DifferLemmas.{apart_more, apart_none, apart_wider}
 
@@ -154,10 +156,10 @@ service_at taken p (Some (item.Text t)) None i h e = cc
 service_at taken p (Some (item.Text t)) (Some w) i h e = let f : item.Service (record { name = t; kind = w }) ≡ i = cc in subst (FreeService taken) f h
 service_at taken p (Some _) k i h e = cc
 
-services_at : (found : Option Item) → IfSome found ApartServices → Differ (names_of (services_of found))
-services_at None h = tt
+services_at : (found : Option Item) → IfSome found ApartServices → AreSound (services_of found)
+services_at None h = (tt, omega arith)
 services_at (Some (item.Services ss)) h = h
-services_at (Some _) h = tt
+services_at (Some _) h = (tt, omega arith)
 
 built_at : (taken : Names) (k : StructKind) (p : ℕ) (es : List Entry) (i : Item) → SoundFields taken k es → built k p es ≡ Ok i → Sound taken (shape.Struct k) i
 unfolding SoundFields Sound built
@@ -171,42 +173,84 @@ built_sound taken k p es y h g = if_gives (built k p es) (Sound taken (shape.Str
 
 -- ---- lists
 
-pub items_none : (k : ListKind) → SoundItems k (record { items = empty_list k; taken = [] })
+pub items_none : (k : ListKind) (n : ℕ) → n ≤ most_bytes → SoundItems k n (record { items = empty_list k; taken = [] })
 unfolding SoundItems
-items_none list.Services = apart_none
-items_none _ = tt
+items_none list.Services n h = (apart_none, h)
+items_none _ n h = tt
 
-one_service : (taken : Names) (ss : List Service) (i : Item) → Apart taken (names_of ss) → FreeService taken i → TakenServices (with_name taken i) (with_item (item.Services ss) i)
+more_room : (l m n k : ℕ) → m ≡ l + 1 → l + suc n ≤ k → m + n ≤ k
+more_room l m n k e h = omega arith
+
+same_room : (l n k : ℕ) → l + suc n ≤ k → l + n ≤ k
+same_room l n k h = omega arith
+
+one_service : (n : ℕ) (taken : Names) (ss : List Service) (i : Item) → Apart taken (names_of ss) → length ss + suc n ≤ most_bytes → FreeService taken i → TakenServices n (with_name taken i) (with_item (item.Services ss) i)
 unfolding with_item with_name
-one_service taken ss (item.Service s) a h = subst (Apart (put taken s.name 0)) (sym (map-append (λ (t : Service). t.name) ss (s ∷ []))) (apart_more taken (names_of ss) s.name 0 a h)
-one_service taken ss (item.Binding b) a h = apart_wider taken (names_of ss) b.name 0 a
-one_service taken ss (item.Socket s) a h = apart_wider taken (names_of ss) s.name 0 a
-one_service taken ss _ a h = a
+one_service n taken ss (item.Service s) a r h =
+    (subst (Apart (put taken s.name 0)) (sym (map-append (λ (t : Service). t.name) ss (s ∷ []))) (apart_more taken (names_of ss) s.name 0 a h), more_room (length ss) (length (ss ++ s ∷ [])) n most_bytes (length-append ss (s ∷ [])) r)
+one_service n taken ss (item.Binding b) a r h = (apart_wider taken (names_of ss) b.name 0 a, same_room (length ss) n most_bytes r)
+one_service n taken ss (item.Socket s) a r h = (apart_wider taken (names_of ss) s.name 0 a, same_room (length ss) n most_bytes r)
+one_service n taken ss _ a r h = (a, same_room (length ss) n most_bytes r)
 
-services_more : (taken : Names) (items i : Item) → TakenServices taken items → FreeService taken i → TakenServices (with_name taken i) (with_item items i)
-services_more taken (item.Services ss) i a h = one_service taken ss i a h
-services_more taken _ i a h = absurd a
+services_more : (n : ℕ) (taken : Names) (items i : Item) → TakenServices (suc n) taken items → FreeService taken i → TakenServices n (with_name taken i) (with_item items i)
+services_more n taken (item.Services ss) i (a, r) h = one_service n taken ss i a r h
+services_more n taken _ i a h = absurd a
 
-pub items_more : (k : ListKind) (l : Listed) (i : Item) → Sound l.taken (item_shape k) i → SoundItems k l → SoundItems k (record { items = with_item l.items i; taken = with_name l.taken i })
+pub items_more : (k : ListKind) (n : ℕ) (l : Listed) (i : Item) → Sound l.taken (item_shape k) i → SoundItems k (suc n) l → SoundItems k n (record { items = with_item l.items i; taken = with_name l.taken i })
 unfolding SoundItems Sound
-items_more list.Services l i h a = services_more l.taken l.items i a h
-items_more _ l i h a = tt
+items_more list.Services n l i h a = services_more n l.taken l.items i a h
+items_more _ n l i h a = tt
 
-services_apart : (taken : Names) (items : Item) → TakenServices taken items → ApartServices items
-services_apart taken (item.Services ss) a = a.differ
-services_apart taken _ a = absurd a
+services_apart : (n : ℕ) (taken : Names) (items : Item) → TakenServices n taken items → ApartServices items
+services_apart n taken (item.Services ss) (a, r) = (a.differ, omega (arith, r))
+services_apart n taken _ a = absurd a
 
-pub items_sound : (taken : Names) (k : ListKind) (l : Listed) → SoundItems k l → Sound taken (shape.List k) l.items
+pub items_sound : (taken : Names) (k : ListKind) (n : ℕ) (l : Listed) → SoundItems k n l → Sound taken (shape.List k) l.items
 unfolding SoundItems Sound
-items_sound taken list.Services l a = services_apart l.taken l.items a
-items_sound taken _ l a = tt
+items_sound taken list.Services n l a = services_apart n l.taken l.items a
+items_sound taken _ n l a = tt
 
 -- ---- the whole
 
-config_at : (i : Item) (c : Config) → config_in i ≡ Ok c → ApartConfig i → Differ (names_of c.services)
-config_at (item.Config d) c e h = let f : d ≡ c = cc in subst (λ (z : Config). Differ (names_of z.services)) f h
+config_at : (i : Item) (c : Config) → config_in i ≡ Ok c → ApartConfig i → AreSound c.services
+config_at (item.Config d) c e h = let f : d ≡ c = cc in subst (λ (z : Config). AreSound z.services) f h
 config_at _ c e h = cc
 
 pub config_sound : (taken : Names) (i : Item) (y : Result Config Stop) → Sound taken (shape.Struct struct.Config) i → Gives (config_in i) y → IfOk y (λ c. Differ (names_of c.services))
 unfolding Sound
-config_sound taken i y h g = if_gives (config_in i) (λ c. Differ (names_of c.services)) y (λ c e. config_at i c e h) g
+config_sound taken i y h g = if_gives (config_in i) (λ c. Differ (names_of c.services)) y (λ c e. (config_at i c e h).0) g
+
+pub config_few : (taken : Names) (i : Item) (y : Result Config Stop) → Sound taken (shape.Struct struct.Config) i → Gives (config_in i) y → IfOk y (λ c. length c.services < 2 ^ 31)
+unfolding Sound
+config_few taken i y h g = if_gives (config_in i) (λ c. length c.services < 2 ^ 31) y (λ c e. (config_at i c e h).1) g
+
+-- ---- a field and an item are less deep
+
+abbrev LessDeep : ℕ → Rule → Type 0
+LessDeep n LeftOut = Unit {0}
+LessDeep n (Reads s x) = deep x < n
+
+rows_deep : (k : StructKind) → Each (LessDeep (struct_deep k)) (rows k)
+rows_deep struct.Config = (omega arith, (omega arith, (tt, (tt, (tt, tt)))))
+rows_deep struct.Service = (omega arith, (omega arith, (omega arith, (omega arith, (omega arith, tt)))))
+rows_deep struct.Worker = (omega arith, (omega arith, (omega arith, (omega arith, (omega arith, (omega arith, (tt, (tt, (tt, (tt, (tt, tt)))))))))))
+rows_deep struct.Module = (omega arith, (omega arith, (tt, (tt, (tt, (tt, (tt, tt)))))))
+rows_deep struct.Binding = (omega arith, (omega arith, (omega arith, (omega arith, (omega arith, (tt, (tt, (tt, (tt, (tt, (tt, (tt, (tt, (tt, tt))))))))))))))
+rows_deep struct.Designator = (omega arith, (tt, (tt, tt)))
+rows_deep struct.Network = (omega arith, (omega arith, (tt, tt)))
+rows_deep struct.External = (omega arith, (omega arith, (tt, (tt, tt))))
+rows_deep struct.Disk = (omega arith, (omega arith, (omega arith, tt)))
+rows_deep struct.Socket = (omega arith, (omega arith, (omega arith, (omega arith, (tt, tt)))))
+rows_deep struct.Http = (omega arith, (tt, (tt, (tt, (tt, tt)))))
+
+pub field_deep : (k : StructKind) (es : List Entry) (n : Placed) (s : Slot) (x : Shape) → allowed k es n ≡ Ok (s, x) → deep x < struct_deep k
+unfolding allowed rule_of
+field_deep k es n s x e = found (LessDeep (struct_deep k)) (rows k) n.bytes (Reads s x) (rows_deep k) (allowed_rule es n (rule_in (rows k) n.bytes) s x e)
+
+pub item_deep : (k : ListKind) → deep (item_shape k) < list_deep k
+item_deep list.Flags = omega arith
+item_deep list.Ranges = omega arith
+item_deep list.Modules = omega arith
+item_deep list.Bindings = omega arith
+item_deep list.Services = omega arith
+item_deep list.Sockets = omega arith
