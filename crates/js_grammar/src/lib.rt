@@ -1,3 +1,7 @@
-//! The grammar of scripts, as a function from trees to patterns of tokens. `docs/SCRIPTS.md`
-//! describes it; the definitions are in `specs`.
+//! The grammar of scripts, as a function from trees to patterns of tokens, and the letters of its
+//! words. `docs/SCRIPTS.md` describes it; the definitions are in `specs`.
 #![tactic(auto)]
+
+mod spelling;
+
+pub use spelling::{letters, reserved_letters};

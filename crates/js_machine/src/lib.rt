@@ -1,5 +1,5 @@
-//! The machine that reads scripts, one token at a time: what it has read, and, in `specs`, what
-//! each token does.
+//! The machine that reads scripts, one token at a time: what it has read, in `specs` what each
+//! token does, and in `proofs` the laws that it reads just the grammar.
 #![tactic(auto)]
 
 mod machine;
