@@ -15,20 +15,42 @@ use Rattle.wd_config.specs.Answer.{Answered, Answers, Differ}
 use Rattle.wd_config.specs.Reading.{Answer, Found, Refused, Untold, IsEmbedFault, Read, Says, Tells, TellsFault}
 use Rattle.wd_config.proofs.OneAnswer.{one_answer}
 use Rattle.wd_config.proofs.ToldLaws.{answer_told}
+use Rattle.wd_graph.specs.declared.linking.GraphFault.{GraphFault}
 use Rattle.wd_graph.specs.Links.{first_unknown, linked}
 use Rattle.wd_graph.specs.Names.{names_differ as differ_test, has_name, same_name}
 use Rattle.wd_graph.proofs.Numbers.{one_name}
 use Rattle.wd_plan.specs.declared.command.Verb.{Verb}
 use Rattle.wd_plan.specs.declared.command.Verb.TheVariants as verb
+use Rattle.wd_plan.specs.declared.reason.RefusedScript.{RefusedScript}
 use Rattle.wd_plan.specs.declared.refusal.Refusal.TheVariants as refusal
 use Rattle.wd_plan.specs.Command.{Asked, command, is_serve, is_serving}
 use Rattle.wd_plan.specs.Folder.{folder}
-use Rattle.wd_plan.specs.Plan.{Plan, Refuses, Plans, AtAnswer, AtCommand, AtFile, EmbedsPath, IsReading, at_names}
+use Rattle.wd_plan.specs.Plan.{Plan, Refuses, Starts, Plans, AtAnswer, AtCommand, AtFile, AtKinds, AtNames, AtScripts, EmbedsPath, IsReading, at_script, may_go}
 use Rattle.wd_plan.specs.Prepare.{IsAskedBy, IsLateEnd, IsLateRefusal, OnEndFault, OnRefusedFault, end_of, fault_refusal, plan_of_end, plan_of_refusal}
+use Rattle.wd_plan.specs.Starts.{FirstRefused, are_plain}
+use Rattle.wd_plan.proofs.StartSteps.{first_one}
 use Rattle.wd_ports.specs.Told.{Stored, file_at}
 
+-- at the scripts of a world of which none is refused, or this one is the first that is
+pub at_started : (v : Verb) (world : Config) → FirstRefused world.services None → AtScripts v world (Starts v world)
+at_started v world h = (None, h, refl)
+
+pub at_refused : (v : Verb) (world : Config) (script : RefusedScript) → FirstRefused world.services (Some script) → AtScripts v world (Refuses (refusal.Script script))
+at_refused v world script h = (Some script, h, refl)
+
+at_scripts : (v : Verb) (world : Config) (p p' : Plan) → AtScripts v world p → AtScripts v world p' → p ≡ p'
+at_scripts v world p p' (found, first, is) (found', first', is') = is ∙ ap (at_script v world) (first_one world.services found found' first first') ∙ sym is'
+
+at_kinds : (v : Verb) (world : Config) (go : Bool) (p p' : Plan) → AtKinds v world go p → AtKinds v world go p' → p ≡ p'
+at_kinds v world false p p' h h' = h ∙ sym h'
+at_kinds v world true p p' h h' = at_scripts v world p p' h h'
+
+at_names : (v : Verb) (config : Config) (unknown : Option GraphFault) (p p' : Plan) → AtNames v config unknown p → AtNames v config unknown p' → p ≡ p'
+at_names v config (Some fault) p p' h h' = h ∙ sym h'
+at_names v config None p p' h h' = at_kinds v (linked config) (may_go v (are_plain config.services) (linked config)) p p' h h'
+
 at_answer : (v : Verb) (a : Answer Config) (p p' : Plan) → AtAnswer v a p → AtAnswer v a p' → p ≡ p'
-at_answer v (Found config) p p' h h' = h ∙ sym h'
+at_answer v (Found config) p p' h h' = at_names v config (first_unknown (linked config)) p p' h h'
 at_answer v (Refused fault) p p' h h' = h ∙ sym h'
 at_answer v Untold p p' h h' = absurd h
 
@@ -63,7 +85,7 @@ says_is bytes name place s r x (Found c) of e says = says
 says_is bytes name place s r x (Refused f) of e says = says
 says_is bytes name place s r x Untold of e says = absurd (answer_told bytes name place s r of e)
 
-pub at_found : (files : Option Stored) (asked : Asked) (bytes : List ℕ) (config : Config) (plan : Option Plan) → ((r : Read Config) × IsReading files asked bytes r × Tells r (Ok config)) → IfSome plan (λ p. p ≡ at_names asked.verb config (first_unknown (linked config)))
+pub at_found : (files : Option Stored) (asked : Asked) (bytes : List ℕ) (config : Config) (plan : Option Plan) → ((r : Read Config) × IsReading files asked bytes r × Tells r (Ok config)) → IfSome plan (AtNames asked.verb config (first_unknown (linked config)))
     → IfSome files (λ s. IfSome plan (AtFile s asked (Some bytes)))
 at_found None asked bytes config plan reads is = tt
 at_found (Some s) asked bytes config None reads is = tt

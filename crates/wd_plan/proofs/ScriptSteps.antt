@@ -1,10 +1,62 @@
--- Steps along a string literal.
-use Rattle.std.specs.Prelude.{◌≡◌, ℕ, suc, ◌+◌, ◌-◌, ◌<◌, ◌≤◌, Bool, true, false, not, ◌&&◌, ◌==◌, nat_le, nat_lt, List, [], ◌∷◌, ◌++◌, length, drop, Option, Some, None, refl, if◌then◌else◌}
-use Rattle.std.proofs.Common.{◌⊎◌, inl, inr, sym, ap, ◌∙◌, append_assoc, append-nil, get_or, arith, length-drop}
+-- What a script comes to, and steps along a string literal.
+use Rattle.std.specs.Prelude.{◌≡◌, IfOk, Result, Ok, Err, ℕ, suc, ◌+◌, ◌-◌, ◌<◌, ◌≤◌, Bool, true, false, not, ◌&&◌, ◌==◌, nat_le, nat_lt, List, [], ◌∷◌, ◌++◌, length, drop, Option, Some, None, refl, if◌then◌else◌}
+use Rattle.std.proofs.Common.{◌⊎◌, inl, inr, sym, ap, subst, ◌∙◌, append_assoc, append-nil, get_or, arith, length-drop}
 use Rattle.std.proofs.Math.Seq.{drop-cons}
 use Rattle.std.proofs.Math.ListN.{drop_of_length-le}
 use Rattle.std.proofs.lemmas.Bool.{false≢true, eqb-true}
-use Rattle.wd_plan.specs.Script.{behind, literal_value, is_plain}
+use Rattle.js_check.specs.declared.script.ScriptRefusal.{ScriptRefusal}
+use Rattle.js_check.specs.Verdict.{Checked}
+use Rattle.js_check.proofs.OneVerdict.{one_verdict}
+use Rattle.wd_base.specs.declared.config.WorkerDef.{WorkerDef}
+use Rattle.wd_base.specs.declared.ids.NoMemory.{NoMemory}
+use Rattle.wd_base.specs.Text.{utf16_of}
+use Rattle.wd_plan.specs.declared.reason.Reason.{Reason}
+use Rattle.wd_plan.specs.declared.reason.Reason.TheVariants.{Faulty, OtherForm}
+use Rattle.wd_plan.specs.declared.script.Verdict.{Verdict}
+use Rattle.wd_plan.specs.declared.script.Verdict.TheVariants.{Answers, Refused}
+use Rattle.wd_plan.specs.Script.{Comes, answer_for, answered, behind, literal_value, is_plain}
+
+-- ---- what a script comes to
+
+-- what the check of the units found is what it finds of the bytes
+pub found_told : (source units : List ℕ) (found : Option ScriptRefusal) (refusal : ScriptRefusal) → units ≡ utf16_of source → Checked units found → found ≡ Some refusal → Checked (utf16_of source) (Some refusal)
+found_told source units found refusal e checked is = subst (λ f. Checked (utf16_of source) f) is (subst (λ u. Checked u found) e checked)
+
+comes_answered : (def : WorkerDef) (answer : Option (List ℕ)) → Checked (utf16_of def.source) None → answer_for def ≡ answer → Comes def (answered answer)
+comes_answered def None checked e = (checked, e)
+comes_answered def (Some text) checked e = (checked, e)
+
+pub comes_checked : (def : WorkerDef) (units : List ℕ) (found : Option ScriptRefusal) (r : Result Verdict NoMemory) → units ≡ utf16_of def.source → Checked units found → found ≡ None → IfOk r (λ verdict. verdict ≡ answered (answer_for def)) → IfOk r (Comes def)
+comes_checked def units found (Err end) e checked is judged = tt
+comes_checked def units found (Ok verdict) e checked is judged =
+    let passed : Checked (utf16_of def.source) None = subst (λ f. Checked (utf16_of def.source) f) is (subst (λ u. Checked u found) e checked) in
+    subst (Comes def) (sym judged) (comes_answered def (answer_for def) passed refl)
+
+-- by what the check of a script found, and by its form
+judged : Option ScriptRefusal → Option (List ℕ) → Verdict
+judged (Some refusal) answer = Refused (Faulty refusal)
+judged None answer = answered answer
+
+-- what a script comes to, by these two
+record IsJudged (def : WorkerDef) (verdict : Verdict) : Type 0 where
+  found : Option ScriptRefusal
+  checked : Checked (utf16_of def.source) found
+  is : verdict ≡ judged found (answer_for def)
+
+comes_judged : (def : WorkerDef) (verdict : Verdict) → Comes def verdict → IsJudged def verdict
+unfolding judged
+comes_judged def (Refused (Faulty refusal)) h = record { found = Some refusal; checked = h; is = refl }
+comes_judged def (Refused OtherForm) h = record { found = None; checked = h.0; is = sym (ap answered h.1) }
+comes_judged def (Answers text) h = record { found = None; checked = h.0; is = sym (ap answered h.1) }
+
+-- a script comes to one thing alone
+pub comes_one : (def : WorkerDef) (a b : Verdict) → Comes def a → Comes def b → a ≡ b
+comes_one def a b x y =
+    let p : IsJudged def a = comes_judged def a x in
+    let q : IsJudged def b = comes_judged def b y in
+    p.is ∙ ap (λ f. judged f (answer_for def)) (one_verdict (utf16_of def.source) p.found q.found p.checked q.checked) ∙ sym q.is
+
+-- ---- a string literal
 
 pub behind_more : (front : List ℕ) (c : ℕ) (value : Option (List ℕ)) → behind front (behind (c ∷ []) value) ≡ behind (front ++ c ∷ []) value
 unfolding behind

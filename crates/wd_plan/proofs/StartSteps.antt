@@ -1,10 +1,8 @@
 -- The start of the scripts, service by service.
-use Rattle.std.specs.Prelude.{◌≡◌, ℕ, ◌+◌, ◌<◌, ◌≤◌, Bool, true, false, List, [], ◌∷◌, ◌++◌, length, map, drop, slice_get, Option, Some, None, is_none, is_some, option_map, refl, suc, if◌then◌else◌}
-use Rattle.std.specs.List.{find}
-use Rattle.std.proofs.Common.{sym, ap, subst, ◌∙◌, append_assoc, append-nil, arith}
+use Rattle.std.specs.Prelude.{◌≡◌, ℕ, ◌+◌, ◌<◌, ◌≤◌, Bool, true, false, List, [], ◌∷◌, ◌++◌, length, map, drop, slice_get, Option, Some, None, is_some, option_map, refl, suc}
+use Rattle.std.proofs.Common.{inl, inr, sym, ap, subst, ◌∙◌, append_assoc, append-nil, arith}
 use Rattle.std.proofs.Math.ListN.{drop_of_length-le}
 use Rattle.std.proofs.Math.Seq.{drop-cons}
-use Rattle.std.proofs.lemmas.Bool.{false≢true}
 use Rattle.std.proofs.lemmas.Option.{slice_get_within, get_or_from_slice_get}
 use Rattle.std.proofs.lemmas.List.{map-append}
 use Rattle.wd_base.specs.declared.config.Config.{Config}
@@ -18,9 +16,14 @@ use Rattle.wd_graph.proofs.Numbers.{numbered, unnumbered}
 use Rattle.wd_graph.proofs.FindLemmas.{place_within}
 use Rattle.wd_machine.specs.First.{AreFirst, first_isolate, worker_defs, add}
 use Rattle.wd_plan.specs.declared.constant.Constant.{Constant}
+use Rattle.wd_plan.specs.declared.reason.Reason.{Reason}
+use Rattle.wd_plan.specs.declared.reason.RefusedScript.{RefusedScript}
+use Rattle.wd_plan.specs.declared.script.Verdict.{Verdict}
+use Rattle.wd_plan.specs.declared.script.Verdict.TheVariants.{Answers, Refused}
 use Rattle.wd_plan.specs.Constant.{constant_means, first_constant}
-use Rattle.wd_plan.specs.Script.{answer_for}
-use Rattle.wd_plan.specs.Starts.{Starting, is_at_worker, is_refused, refused_script}
+use Rattle.wd_plan.specs.Script.{Comes}
+use Rattle.wd_plan.specs.Starts.{FirstRefused, IsPassed, IsRefusedFor, Starting, is_at_worker, refused}
+use Rattle.wd_plan.proofs.ScriptSteps.{comes_one}
 
 -- what is left from a place on is the service there and the rest
 from_place : (ss : List Service) (n : ℕ) (s : Service) → slice_get ss n ≡ Some s → drop n ss ≡ s ∷ drop (n + 1) ss
@@ -33,66 +36,73 @@ defs_with : (s : Service) (rest : List Service) (w : Option WorkerDef) → worke
 defs_with s rest w e = ap (λ o. add o (worker_defs rest)) e
 
 -- the first isolate of a Worker at a place of the list
-isolate_at : (ss : List Service) (n : ℕ) (s : Service) (def : WorkerDef) (o : Option Constant) → slice_get ss n ≡ Some s → worker_in s.kind ≡ Some def → o ≡ option_map (first_constant def (workers_in ss (worker_at (slice_get ss n)))) (answer_for def)
-    → o ≡ first_isolate constant_means ss def
-isolate_at ss n s def o at worker e = e ∙ ap (λ x. option_map (first_constant def (workers_in ss (worker_at x))) (answer_for def)) at ∙ ap (λ w. option_map (first_constant def (workers_in ss w)) (answer_for def)) worker
-
-some_only : (answer : Option (List ℕ)) (def : WorkerDef) (names : List (List ℕ)) (isolate : Constant) → option_map (first_constant def names) answer ≡ Some isolate → is_none answer ≡ false
-some_only None def names isolate e = absurd (false≢true (ap is_some e))
-some_only (Some text) def names isolate e = refl
-
-none_only : (answer : Option (List ℕ)) (def : WorkerDef) (names : List (List ℕ)) → option_map (first_constant def names) answer ≡ None → is_none answer ≡ true
-none_only None def names e = refl
-none_only (Some text) def names e = absurd (false≢true (sym (ap is_some e)))
-
--- a Worker with a first isolate has a script that is read
-answer_there : (ss : List Service) (def : WorkerDef) (isolate : Constant) → first_isolate constant_means ss def ≡ Some isolate → is_none (answer_for def) ≡ false
-answer_there ss def isolate e = some_only (answer_for def) def (workers_of ss def) isolate e
-
-no_answer : (ss : List Service) (def : WorkerDef) → first_isolate constant_means ss def ≡ None → is_none (answer_for def) ≡ true
-no_answer ss def e = none_only (answer_for def) def (workers_of ss def) e
-
-abbrev named_first : Service → List Service → Bool → Option (List ℕ)
-named_first s rest b = option_map (λ (x : Service). x.name) (if b then Some s else find (λ x. is_refused (worker_in x.kind)) rest)
-
-read_script : (s : Service) (rest : List Service) (def : WorkerDef) → worker_in s.kind ≡ Some def → is_none (answer_for def) ≡ false → refused_script (s ∷ rest) ≡ refused_script rest
-read_script s rest def worker read = ap (named_first s rest) (ap is_refused worker ∙ read)
-
-no_script : (s : Service) (rest : List Service) (def : WorkerDef) → worker_in s.kind ≡ Some def → is_none (answer_for def) ≡ true → refused_script (s ∷ rest) ≡ Some s.name
-no_script s rest def worker refused = ap (named_first s rest) (ap is_refused worker ∙ refused)
+isolate_at : (ss : List Service) (n : ℕ) (s : Service) (def : WorkerDef) (text : List ℕ) (isolate : Constant) → slice_get ss n ≡ Some s → worker_in s.kind ≡ Some def → Comes def (Answers text)
+    → isolate ≡ first_constant def (workers_in ss (worker_at (slice_get ss n))) text → first_isolate constant_means ss def ≡ Some isolate
+isolate_at ss n s def text isolate at worker comes is =
+    let here : isolate ≡ first_constant def (workers_of ss def) text = is ∙ ap (λ x. first_constant def (workers_in ss (worker_at x)) text) at ∙ ap (λ w. first_constant def (workers_in ss w) text) worker in
+    ap (option_map (first_constant def (workers_of ss def))) comes.1 ∙ ap Some (sym here)
 
 pub starting_first : (ss : List Service) → Starting ss [] 0
-starting_first ss = record { made = refl; left = refl }
+starting_first ss = record { made = refl; left = λ found h. h }
+
+-- behind a service whose script is not refused
+left_more : (ss : List Service) (n : ℕ) (s : Service) → ((found : Option RefusedScript) → FirstRefused (drop n ss) found → FirstRefused ss found) → slice_get ss n ≡ Some s → IsPassed (worker_in s.kind)
+    → (found : Option RefusedScript) → FirstRefused (drop (n + 1) ss) found → FirstRefused ss found
+left_more ss n s left at passed found h = left found (subst (λ l. FirstRefused l found) (sym (from_place ss n s at)) (inl (passed, h)))
 
 pub starting_other : (ss : List Service) (isolates : List Constant) (n : ℕ) (s : Service) → Starting ss isolates n → slice_get ss n ≡ Some s → worker_in s.kind ≡ None → Starting ss isolates (n + 1)
 starting_other ss isolates n s h at other =
     let e : drop n ss ≡ s ∷ drop (n + 1) ss = from_place ss n s at in
     record {
       made = h.made ∙ ap (λ l. map Some isolates ++ map (first_isolate constant_means ss) l) (ap worker_defs e ∙ defs_with s (drop (n + 1) ss) None other);
-      left = h.left ∙ ap refused_script e ∙ rw other;
+      left = left_more ss n s h.left at (subst IsPassed (sym other) tt);
     }
 
-pub starting_more : (ss : List Service) (isolates : List Constant) (n : ℕ) (s : Service) (def : WorkerDef) (o : Option Constant) (isolate : Constant) → Starting ss isolates n → slice_get ss n ≡ Some s → worker_in s.kind ≡ Some def
-    → o ≡ option_map (first_constant def (workers_in ss (worker_at (slice_get ss n)))) (answer_for def) → o ≡ Some isolate → Starting ss (isolates ++ isolate ∷ []) (n + 1)
-starting_more ss isolates n s def o isolate h at worker first is =
+pub starting_more : (ss : List Service) (isolates : List Constant) (n : ℕ) (s : Service) (def : WorkerDef) (v : Verdict) (text : List ℕ) (isolate : Constant) → Starting ss isolates n → slice_get ss n ≡ Some s → worker_in s.kind ≡ Some def → Comes def v → v ≡ Answers text
+    → isolate ≡ first_constant def (workers_in ss (worker_at (slice_get ss n))) text → Starting ss (isolates ++ isolate ∷ []) (n + 1)
+starting_more ss isolates n s def v text isolate h at worker judged answers is =
+    let comes : Comes def (Answers text) = subst (Comes def) answers judged in
     let e : drop n ss ≡ s ∷ drop (n + 1) ss = from_place ss n s at in
-    let here : first_isolate constant_means ss def ≡ Some isolate = sym (isolate_at ss n s def o at worker first) ∙ is in
+    let here : first_isolate constant_means ss def ≡ Some isolate = isolate_at ss n s def text isolate at worker comes is in
     let rest : List (Option Constant) = map (first_isolate constant_means ss) (worker_defs (drop (n + 1) ss)) in
     record {
       made = h.made ∙ ap (λ l. map Some isolates ++ map (first_isolate constant_means ss) l) (ap worker_defs e ∙ defs_with s (drop (n + 1) ss) (Some def) worker) ∙ ap (λ x. map Some isolates ++ x ∷ rest) here ∙ sym (append_assoc (map Some isolates) (Some isolate ∷ []) rest) ∙ ap (λ l. l ++ rest) (sym (map-append Some isolates (isolate ∷ [])));
-      left = h.left ∙ ap refused_script e ∙ read_script s (drop (n + 1) ss) def worker (answer_there ss def isolate here);
+      left = left_more ss n s h.left at (subst IsPassed (sym worker) (text, comes));
     }
 
-pub starting_refused : (ss : List Service) (isolates : List Constant) (n : ℕ) (s : Service) (def : WorkerDef) (o : Option Constant) → Starting ss isolates n → slice_get ss n ≡ Some s → worker_in s.kind ≡ Some def
-    → o ≡ option_map (first_constant def (workers_in ss (worker_at (slice_get ss n)))) (answer_for def) → o ≡ None → refused_script ss ≡ Some s.name
-starting_refused ss isolates n s def o h at worker first is =
-    let e : drop n ss ≡ s ∷ drop (n + 1) ss = from_place ss n s at in
-    h.left ∙ ap refused_script e ∙ no_script s (drop (n + 1) ss) def worker (no_answer ss def (sym (isolate_at ss n s def o at worker first) ∙ is))
+pub starting_refused : (ss : List Service) (isolates : List Constant) (n : ℕ) (s : Service) (def : WorkerDef) (v : Verdict) (reason : Reason) (script : RefusedScript) → Starting ss isolates n → slice_get ss n ≡ Some s → worker_in s.kind ≡ Some def → Comes def v → v ≡ Refused reason
+    → script ≡ refused s reason → FirstRefused ss (Some script)
+starting_refused ss isolates n s def v reason script h at worker judged why is =
+    let comes : Comes def (Refused reason) = subst (Comes def) why judged in
+    h.left (Some script) (subst (λ l. FirstRefused l (Some script)) (sym (from_place ss n s at)) (inr (reason, subst (λ w. IsRefusedFor w reason) (sym worker) comes, ap Some is)))
 
-pub started_all : (world : Config) (isolates : List Constant) (n : ℕ) → Starting world.services isolates n → length world.services ≤ n → AreFirst constant_means world isolates × (refused_script world.services ≡ None)
+pub started_all : (world : Config) (isolates : List Constant) (n : ℕ) → Starting world.services isolates n → length world.services ≤ n → AreFirst constant_means world isolates × FirstRefused world.services None
 started_all world isolates n h over =
     let none : drop n world.services ≡ [] = drop_of_length-le world.services {i = n} over in
-    (h.made ∙ ap (λ l. map Some isolates ++ map (first_isolate constant_means world.services) (worker_defs l)) none ∙ append-nil (map Some isolates), h.left ∙ ap refused_script none)
+    (h.made ∙ ap (λ l. map Some isolates ++ map (first_isolate constant_means world.services) (worker_defs l)) none ∙ append-nil (map Some isolates), h.left None (subst (λ l. FirstRefused l None) (sym none) refl))
+
+-- ---- the first script that is refused is one alone
+
+apart : (text : List ℕ) (reason : Reason) → Answers text ≡ Refused reason → ⊥
+apart text reason e = cc
+
+reasons_same : (a b : Reason) → Refused a ≡ Refused b → a ≡ b
+reasons_same a b e = cc
+
+not_both : (w : Option WorkerDef) (reason : Reason) → IsPassed w → IsRefusedFor w reason → ⊥
+not_both None reason passed refused = refused
+not_both (Some def) reason (text, comes) refused = apart text reason (comes_one def (Answers text) (Refused reason) comes refused)
+
+one_reason : (w : Option WorkerDef) (a b : Reason) → IsRefusedFor w a → IsRefusedFor w b → a ≡ b
+one_reason None a b x y = absurd x
+one_reason (Some def) a b x y = reasons_same a b (comes_one def (Refused a) (Refused b) x y)
+
+pub first_one : (ss : List Service) (a b : Option RefusedScript) → FirstRefused ss a → FirstRefused ss b → a ≡ b
+first_one [] a b x y = x ∙ sym y
+first_one (s ∷ rest) a b (inl (_, x)) (inl (_, y)) = first_one rest a b x y
+first_one (s ∷ rest) a b (inl (passed, _)) (inr (reason, refused, _)) = absurd (not_both (worker_in s.kind) reason passed refused)
+first_one (s ∷ rest) a b (inr (reason, refused, _)) (inl (passed, _)) = absurd (not_both (worker_in s.kind) reason passed refused)
+first_one (s ∷ rest) a b (inr (reason, x, ea)) (inr (other, y, eb)) = ea ∙ ap (λ r. Some (refused s r)) (one_reason (worker_in s.kind) reason other x y) ∙ sym eb
 
 -- ---- the sockets
 

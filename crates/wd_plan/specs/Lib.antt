@@ -1,4 +1,5 @@
 pub mod Command
+pub mod Reason
 pub mod Script
 pub mod Constant
 pub mod Folder

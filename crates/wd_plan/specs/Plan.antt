@@ -9,11 +9,12 @@ use Rattle.wd_graph.specs.declared.linking.GraphFault.{GraphFault}
 use Rattle.wd_graph.specs.Links.{first_unknown, linked}
 use Rattle.wd_plan.specs.declared.command.Verb.{Verb}
 use Rattle.wd_plan.specs.declared.command.Verb.TheVariants as verb
+use Rattle.wd_plan.specs.declared.reason.RefusedScript.{RefusedScript}
 use Rattle.wd_plan.specs.declared.refusal.Refusal.{Refusal}
 use Rattle.wd_plan.specs.declared.refusal.Refusal.TheVariants as refusal
 use Rattle.wd_plan.specs.Command.{Asked, command}
 use Rattle.wd_plan.specs.Folder.{folder}
-use Rattle.wd_plan.specs.Starts.{are_plain, are_at_workers, refused_script}
+use Rattle.wd_plan.specs.Starts.{are_plain, are_at_workers, FirstRefused}
 use Rattle.wd_ports.specs.Told.{Stored, file_at}
 
 -- what a call is to do: refuse, or serve or check a world
@@ -30,24 +31,28 @@ abbrev pub may_go : Verb → Bool → Config → Bool
 may_go verb.Serve plain world = plain && are_at_workers world
 may_go verb.Check plain world = true
 
--- at the scripts of a world, of which this one is the first that is not read
-abbrev pub at_scripts : Verb → Config → Option (List ℕ) → Plan
-at_scripts v world None = Starts v world
-at_scripts v world (Some name) = Refuses (refusal.Script name)
+-- at a world, of whose scripts this one is the first that is refused
+abbrev pub at_script : Verb → Config → Option RefusedScript → Plan
+at_script v world None = Starts v world
+at_script v world (Some script) = Refuses (refusal.Script script)
+
+-- at the scripts of a world
+abbrev pub AtScripts : Verb → Config → Plan → Type 0
+AtScripts v world plan = (found : Option RefusedScript) × FirstRefused world.services found × (plan ≡ at_script v world found)
 
 -- at the kinds of its services
-abbrev pub at_kinds : Verb → Config → Bool → Plan
-at_kinds v world false = Refuses (refusal.Config other_kind)
-at_kinds v world true = at_scripts v world (refused_script world.services)
+abbrev pub AtKinds : Verb → Config → Bool → Plan → Type 0
+AtKinds v world false plan = plan ≡ Refuses (refusal.Config other_kind)
+AtKinds v world true plan = AtScripts v world plan
 
 -- at the names of a configuration, of which this one is the first that is unknown
-abbrev pub at_names : Verb → Config → Option GraphFault → Plan
-at_names v config (Some fault) = Refuses (refusal.Link fault)
-at_names v config None = at_kinds v (linked config) (may_go v (are_plain config.services) (linked config))
+abbrev pub AtNames : Verb → Config → Option GraphFault → Plan → Type 0
+AtNames v config (Some fault) plan = plan ≡ Refuses (refusal.Link fault)
+AtNames v config None plan = AtKinds v (linked config) (may_go v (are_plain config.services) (linked config)) plan
 
 -- at the configuration, or its first fault
 abbrev pub AtAnswer : Verb → Answer Config → Plan → Type 0
-AtAnswer v (Found config) plan = plan ≡ at_names v config (first_unknown (linked config))
+AtAnswer v (Found config) plan = AtNames v config (first_unknown (linked config)) plan
 AtAnswer v (Refused fault) plan = plan ≡ Refuses (refusal.Config fault)
 AtAnswer v Untold plan = ⊥
 

@@ -7,8 +7,10 @@ use Rattle.wd_config.specs.declared.faults.ConfigFault.{ConfigFault}
 use Rattle.wd_config.specs.declared.faults.ConfigKind.{ConfigKind}
 use Rattle.wd_config.specs.declared.faults.ConfigKind.TheVariants as kind
 use Rattle.wd_graph.specs.declared.linking.GraphFault.{GraphFault}
+use Rattle.wd_plan.specs.declared.reason.RefusedScript.{RefusedScript}
 use Rattle.wd_plan.specs.declared.refusal.Refusal.{Refusal}
 use Rattle.wd_plan.specs.declared.refusal.Refusal.TheVariants as refusal
+use Rattle.wd_plan.specs.Reason.{reason_text}
 
 -- a line end
 abbrev pub line_end : List ℕ
@@ -19,7 +21,7 @@ abbrev pub status_of : Refusal → ℕ
 status_of refusal.CommandLine = 1
 status_of (refusal.Config fault) = 2
 status_of (refusal.Link fault) = 2
-status_of (refusal.Script name) = 3
+status_of (refusal.Script script) = 3
 status_of (refusal.MissingFile path) = 5
 status_of (refusal.FileFault path) = 5
 
@@ -56,11 +58,15 @@ config_text fault = codes "error: config " ++ (kind_text fault.kind ++ codes " a
 unfoldable pub link_text : GraphFault → List ℕ
 link_text fault = codes "error: link UnknownService " ++ (fault.from ++ codes " -> ") ++ (fault.name ++ line_end)
 
+-- what is printed of a script that is refused: the service whose script it is, and the reason
+unfoldable pub script_text : RefusedScript → List ℕ
+script_text script = codes "error: script " ++ (script.service ++ codes ": ") ++ reason_text script.reason ++ line_end
+
 -- what is printed of a refusal
 abbrev pub text_of : Refusal → List ℕ
 text_of refusal.CommandLine = codes "error: command line" ++ line_end
 text_of (refusal.Config fault) = config_text fault
 text_of (refusal.Link fault) = link_text fault
-text_of (refusal.Script name) = codes "error: script " ++ (name ++ (codes ": LeftOut form at 0" ++ line_end))
+text_of (refusal.Script script) = script_text script
 text_of (refusal.MissingFile path) = codes "error: file " ++ (path ++ line_end)
 text_of (refusal.FileFault path) = codes "error: file " ++ (path ++ line_end)

@@ -1,10 +1,15 @@
--- The scripts that answer every request with one text.
-use Rattle.std.specs.Prelude.{ℕ, Bool, not, ◌&&◌, ◌==◌, nat_le, nat_lt, nat_eq, List, [], ◌∷◌, ◌++◌, ◌-◌, length, take, drop, Option, Some, None, codes, option_map, if◌then◌else◌}
+-- What a Worker's script comes to, and the scripts that answer every request with one text.
+use Rattle.std.specs.Prelude.{◌≡◌, ℕ, Bool, not, ◌&&◌, ◌==◌, nat_le, nat_lt, nat_eq, List, [], ◌∷◌, ◌++◌, ◌-◌, length, take, drop, Option, Some, None, codes, option_map, if◌then◌else◌}
 use Rattle.std.specs.Option.{option_and_then}
 use Rattle.std.specs.Cmp.Lexicographic.{pointwise}
 use Rattle.wd_base.specs.declared.config.Form.{Form}
 use Rattle.wd_base.specs.declared.config.Form.TheVariants as form
 use Rattle.wd_base.specs.declared.config.WorkerDef.{WorkerDef}
+use Rattle.wd_base.specs.Text.{utf16_of}
+use Rattle.js_check.specs.Verdict.{Checked}
+use Rattle.wd_plan.specs.declared.reason.Reason.TheVariants.{Faulty, OtherForm}
+use Rattle.wd_plan.specs.declared.script.Verdict.{Verdict}
+use Rattle.wd_plan.specs.declared.script.Verdict.TheVariants.{Answers, Refused}
 
 -- up to the string literal's first quotation mark, and with it
 abbrev pub front : List ℕ
@@ -53,6 +58,17 @@ answer_as form.Script source = None
 -- the text that a Worker's script answers to every request, where there is one
 abbrev pub answer_for : WorkerDef → Option (List ℕ)
 answer_for def = answer_as def.form def.source
+
+-- what a script comes to that passes the check, by the text that it answers to every request, where there is one
+abbrev pub answered : Option (List ℕ) → Verdict
+answered None = Refused OtherForm
+answered (Some text) = Answers text
+
+-- What a Worker's script comes to: it is refused for what the check of it finds, or else by its form.
+abbrev pub Comes : WorkerDef → Verdict → Type 0
+Comes def (Refused (Faulty refusal)) = Checked (utf16_of def.source) (Some refusal)
+Comes def (Refused OtherForm) = Checked (utf16_of def.source) None × (answer_for def ≡ None)
+Comes def (Answers text) = Checked (utf16_of def.source) None × (answer_for def ≡ Some text)
 
 -- the value of the literal from a character on, whose place in the literal ends at the number
 abbrev pub value_from : Option (ℕ × ℕ) → List ℕ → Option (List ℕ)

@@ -1,7 +1,6 @@
 -- The start of a world's scripts, and what is served of a configuration.
-use Rattle.std.specs.Prelude.{◌≡◌, ℕ, Bool, true, false, ◌&&◌, List, [], ◌∷◌, ◌++◌, map, drop, Option, Some, None, is_none, is_some}
-use Rattle.std.specs.List.{find, list_all}
-use Rattle.std.specs.Option.{option_map}
+use Rattle.std.specs.Prelude.{◌≡◌, ◌⊎◌, ℕ, Bool, true, false, ◌&&◌, List, [], ◌∷◌, ◌++◌, map, drop, Option, Some, None, is_some}
+use Rattle.std.specs.List.{list_all}
 use Rattle.wd_base.specs.declared.config.Config.{Config}
 use Rattle.wd_base.specs.declared.config.Form.{Form}
 use Rattle.wd_base.specs.declared.config.Form.TheVariants as form
@@ -11,35 +10,50 @@ use Rattle.wd_base.specs.declared.config.WorkerDef.{WorkerDef}
 use Rattle.wd_graph.specs.Names.{worker_in, worker_at, service_of}
 use Rattle.wd_machine.specs.First.{AreFirst, first_isolate, worker_defs}
 use Rattle.wd_plan.specs.declared.constant.Constant.{Constant}
+use Rattle.wd_plan.specs.declared.reason.Reason.{Reason}
+use Rattle.wd_plan.specs.declared.reason.RefusedScript.{RefusedScript}
+use Rattle.wd_plan.specs.declared.script.Verdict.TheVariants as verdict
 use Rattle.wd_plan.specs.declared.starts.Started.{Started}
 use Rattle.wd_plan.specs.declared.starts.Started.TheVariants.{Isolates, Refused}
 use Rattle.wd_plan.specs.Constant.{constant_means}
-use Rattle.wd_plan.specs.Script.{answer_for}
+use Rattle.wd_plan.specs.Script.{Comes}
 
--- the Worker's script is not read
-abbrev pub is_refused : Option WorkerDef → Bool
-is_refused None = false
-is_refused (Some def) = is_none (answer_for def)
+-- a service that is no Worker, or a Worker whose script starts
+abbrev pub IsPassed : Option WorkerDef → Type 0
+IsPassed None = Unit {0}
+IsPassed (Some def) = (text : List ℕ) × Comes def (verdict.Answers text)
 
--- the name of the first Worker whose script is not read
-abbrev pub refused_script : List Service → Option (List ℕ)
-refused_script services = option_map (λ s. s.name) (find (λ s. is_refused (worker_in s.kind)) services)
+-- a service that is a Worker whose script is refused for this
+abbrev pub IsRefusedFor : Option WorkerDef → Reason → Type 0
+IsRefusedFor None reason = ⊥
+IsRefusedFor (Some def) reason = Comes def (verdict.Refused reason)
 
--- the first isolates of the world's Workers, in order, or the first Worker whose script is not read
+-- the script of a service, refused for this
+abbrev pub refused : Service → Reason → RefusedScript
+refused s reason = record { service = s.name; reason = reason }
+
+-- the first script of these services, in order, that is refused, if there is one
+abbrev pub FirstRefused : List Service → Option RefusedScript → Type 0
+FirstRefused [] found = found ≡ None
+FirstRefused (s ∷ rest) found =
+    (IsPassed (worker_in s.kind) × FirstRefused rest found)
+    ⊎ ((reason : Reason) × IsRefusedFor (worker_in s.kind) reason × (found ≡ Some (refused s reason)))
+
+-- the first isolates of the world's Workers, in order, or the first script that is refused
 abbrev pub Starts : Config → Started → Type 0
-Starts world (Isolates isolates) = AreFirst constant_means world isolates.items × (refused_script world.services ≡ None)
-Starts world (Refused name) = refused_script world.services ≡ Some name
+Starts world (Isolates isolates) = AreFirst constant_means world isolates.items × FirstRefused world.services None
+Starts world (Refused script) = FirstRefused world.services (Some script)
 
--- These are the first isolates of the Workers among the first n services, and the first script that is not read, if there is
--- one, is among the services behind them.
+-- These are the first isolates of the Workers among the first n services, and the first script of those behind them that is refused is
+-- the first of all, and so where there is none.
 pub record Starting (services : List Service) (isolates : List Constant) (n : ℕ) : Type 0 where
   pub made : map (first_isolate constant_means services) (worker_defs services) ≡ map Some isolates ++ map (first_isolate constant_means services) (worker_defs (drop n services))
-  pub left : refused_script services ≡ refused_script (drop n services)
+  pub left : (found : Option RefusedScript) → FirstRefused (drop n services) found → FirstRefused services found
 
--- the same of one service more, or the first script that is not read is its own
-abbrev pub StartsNext : List Service → List Constant → ℕ → Option (List ℕ) → Type 0
+-- the same of one service more, or its script is the first that is refused
+abbrev pub StartsNext : List Service → List Constant → ℕ → Option RefusedScript → Type 0
 StartsNext services isolates n None = Starting services isolates n
-StartsNext services isolates n (Some name) = refused_script services ≡ Some name
+StartsNext services isolates n (Some script) = FirstRefused services (Some script)
 
 abbrev pub is_module : Form → Bool
 is_module form.Module = true

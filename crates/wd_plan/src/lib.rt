@@ -6,13 +6,17 @@ mod command;
 mod constant;
 mod folder;
 mod ready;
+mod reason;
 mod refusal;
 mod script;
 mod starts;
 #[cfg(test)]
 mod tests;
+mod text;
 
 pub use command::{Verb, serves};
 pub use constant::Constant;
 pub use ready::{PlanEnd, Ready, prepare};
-pub use refusal::{Refusal, framed};
+pub use reason::{Reason, RefusedScript};
+pub use refusal::Refusal;
+pub use text::framed;

@@ -7,9 +7,8 @@ ghost use Rattle.wd_ports.specs.Told.{file_at};
 ghost use Rattle.wd_plan.specs.declared.ready.PlanEnd.TheVariants as end;
 ghost use Rattle.wd_plan.specs.declared.refusal.Refusal.TheVariants as refusal;
 ghost use Rattle.wd_plan.specs.Command.{command, asked_of};
-ghost use Rattle.wd_plan.specs.Plan.{Plans, AtFile, EmbedsPath, IsReadFor, IsReadPath, at_scripts, at_kinds, at_names, may_go, other_kind};
+ghost use Rattle.wd_plan.specs.Plan.{Plans, AtFile, EmbedsPath, IsReadFor, IsReadPath, AtScripts, AtKinds, AtNames, may_go, other_kind};
 ghost use Rattle.wd_plan.specs.Prepare.{ShowsRead, IsShort, IsReadFault, IsPrepared, end_of, plan_of, OnFault, IsAskedBy, IsLate, IsRefused};
-ghost use Rattle.wd_plan.specs.Starts.{refused_script};
 
 use crate::command::{CommandLine, Verb, command_of};
 use crate::constant::Constant;
@@ -97,9 +96,10 @@ fn other_kind(alloc: Global) -> PlanEnd
 }
 
 /// At the scripts of a world.
+#[tactic(auto, using(crate::proofs::PlanLaws::at_started, crate::proofs::PlanLaws::at_refused))]
 fn at_scripts(alloc: Global, verb: Verb, world: World) -> Result<Ready, PlanEnd>
     requires { first_unknown world ≡ None }
-    ensures plan { IfSome (plan_of result) (λ plan. plan ≡ at_scripts verb world (refused_script world.services)) }
+    ensures plan { IfSome (plan_of result) (AtScripts verb world) }
     ensures ready { IfOk result IsPrepared }
     ensures late { IsLate result }
     ensures verb { IfOk result (λ ready. ready.verb ≡ verb) }
@@ -107,7 +107,7 @@ fn at_scripts(alloc: Global, verb: Verb, world: World) -> Result<Ready, PlanEnd>
 {
     match start_all(alloc, &world) {
         Err(NoMemory) => Err(PlanEnd::NoMemory),
-        Ok(Started::Refused(name)) => Err(PlanEnd::Refused(Refusal::Script(name))),
+        Ok(Started::Refused(script)) => Err(PlanEnd::Refused(Refusal::Script(script))),
         Ok(Started::Isolates(isolates)) => Ok(Ready {
             verb,
             world,
@@ -119,7 +119,7 @@ fn at_scripts(alloc: Global, verb: Verb, world: World) -> Result<Ready, PlanEnd>
 /// At a world, which is `plain` where each service that is written out is one that is served.
 fn at_world(alloc: Global, verb: Verb, plain: bool, world: World) -> Result<Ready, PlanEnd>
     requires { first_unknown world ≡ None }
-    ensures plan { IfSome (plan_of result) (λ plan. plan ≡ at_kinds verb world (may_go verb plain world)) }
+    ensures plan { IfSome (plan_of result) (AtKinds verb world (may_go verb plain world)) }
     ensures ready { IfOk result IsPrepared }
     ensures late { IsLate result }
     ensures verb { IfOk result (λ ready. ready.verb ≡ verb) }
@@ -142,7 +142,7 @@ fn at_world(alloc: Global, verb: Verb, plain: bool, world: World) -> Result<Read
 fn at_config(alloc: Global, verb: Verb, config: Config) -> Result<Ready, PlanEnd>
     requires few { length config.services < 2 ^ 31 }
     requires differ { Differ (map (λ s. s.name) config.services) }
-    ensures plan { IfSome (plan_of result) (λ plan. plan ≡ at_names verb config (first_unknown (linked config))) }
+    ensures plan { IfSome (plan_of result) (AtNames verb config (first_unknown (linked config))) }
     ensures ready { IfOk result IsPrepared }
     ensures late { IsLate result }
     ensures verb { IfOk result (λ ready. ready.verb ≡ verb) }
@@ -213,7 +213,8 @@ fn at_file<F: Files>(alloc: Global, files: &mut F, asked: CommandLine<'_>) -> Re
 
 /// What is to be served or checked, or why nothing is: the words are looked at first, then the
 /// configuration's file, the configuration from left to right with the files that it embeds, its
-/// names, the kinds of its services, and the scripts in the order of services.
+/// names, the kinds of its services, and the scripts in the order of services: of each whether it is
+/// in the grammar, has no early fault, and has the form that is served.
 #[tactic(auto, unfolding(crate::specs::Plan::Plans))]
 pub fn prepare<F: Files>(alloc: Global, words: &[String], files: &mut F) -> Result<Ready, PlanEnd>
     ensures plan { IfSome (F.told files.old).files (λ s. IfSome (plan_of result) (Plans (map string_bytes words.now) s)) }

@@ -1,6 +1,8 @@
-ghost use Rattle.std.specs.Prelude.{◌≡◌, ◌++◌, IfOk};
-ghost use Rattle.wd_plan.specs.Refusal.{status_of, text_of, kind_text, text_kind, config_text, link_text};
+ghost use Rattle.std.specs.Prelude.{◌≡◌, IfOk};
+ghost use Rattle.wd_plan.specs.Refusal.{status_of, text_of, kind_text, text_kind, config_text, link_text, script_text};
 
+use crate::reason::{RefusedScript, reason_text};
+use crate::text::framed;
 use capnp_text::TextKind;
 use std::alloc::Global;
 use wd_base::{Bytes, NoMemory};
@@ -20,8 +22,8 @@ pub enum Refusal {
     Config(ConfigFault),
     /// A name in the configuration is that of no service.
     Link(GraphFault),
-    /// The script of the service of this name is refused.
-    Script(Bytes),
+    /// The script of a service is refused.
+    Script(RefusedScript),
 }
 
 impl Refusal {
@@ -47,33 +49,11 @@ impl Refusal {
             Refusal::CommandLine => Ok(Vec::from_slice(alloc, b"error: command line\n")?),
             Refusal::Config(fault) => config_text(alloc, fault),
             Refusal::Link(fault) => link_text(alloc, fault),
-            Refusal::Script(name) => {
-                framed(
-                    alloc,
-                    b"error: script ",
-                    name.as_slice(),
-                    b": LeftOut form at 0\n",
-                )
-            }
+            Refusal::Script(script) => script_text(alloc, script),
             Refusal::MissingFile(path) => framed(alloc, b"error: file ", path.as_slice(), b"\n"),
             Refusal::FileFault(path) => framed(alloc, b"error: file ", path.as_slice(), b"\n"),
         }
     }
-}
-
-/// Bytes between two others.
-pub fn framed(
-    alloc: Global,
-    before: &[u8],
-    middle: &[u8],
-    behind: &[u8],
-) -> Result<Vec<u8>, NoMemory>
-    ensures { IfOk result (λ text. text.items ≡ before.now ++ (middle.now ++ behind.now)) }
-{
-    let mut text = Vec::from_slice(alloc, before)?;
-    text.extend_from_slice(middle)?;
-    text.extend_from_slice(behind)?;
-    Ok(text)
 }
 
 fn text_kind(kind: TextKind) -> &'static [u8]
@@ -133,6 +113,17 @@ fn link_text(alloc: Global, fault: &GraphFault) -> Result<Vec<u8>, NoMemory>
         b" -> ",
     )?;
     text.extend_from_slice(fault.name.as_slice())?;
+    text.extend_from_slice(b"\n")?;
+    Ok(text)
+}
+
+#[tactic(auto, unfolding(crate::specs::Refusal::script_text))]
+fn script_text(alloc: Global, script: &RefusedScript) -> Result<Vec<u8>, NoMemory>
+    ensures { IfOk result (λ text. text.items ≡ script_text script.now) }
+{
+    let reason = reason_text(alloc, &script.reason)?;
+    let mut text = framed(alloc, b"error: script ", script.service.as_slice(), b": ")?;
+    text.extend_from_slice(reason.as_slice())?;
     text.extend_from_slice(b"\n")?;
     Ok(text)
 }

@@ -1,12 +1,44 @@
 ghost use Rattle.std.specs.Prelude.{◌≡◌, ◌<◌, ◌≤◌, length, drop, option_map, IfOk, IfSome};
-ghost use Rattle.wd_plan.specs.Script.{answer_for, answer_of, literal_value, value_from, inner, is_plain};
+ghost use Rattle.wd_plan.specs.Script.{Comes, answer_for, answer_of, answered, literal_value, value_from, inner, is_plain};
 
+use crate::reason::Reason;
+use js_check::check;
 use std::alloc::Global;
-use wd_base::{Bytes, Form, NoMemory, Seq, WorkerDef};
+use wd_base::{Bytes, Form, NoMemory, Seq, WorkerDef, units_of};
 
 const FRONT: &[u8] = b"export default {\n  async fetch(request) {\n    return new Response(\"";
 
 const BACK: &[u8] = b"\");\n  }\n};\n";
+
+/// What the script of a Worker comes to.
+#[derive(Debug, Drop)]
+pub enum Verdict {
+    /// It answers this text to every request.
+    Answers(Bytes),
+    Refused(Reason),
+}
+
+/// What a Worker's script comes to: it is checked, and then its form is looked at.
+#[tactic(auto, using(crate::proofs::ScriptSteps::found_told, crate::proofs::ScriptSteps::comes_checked))]
+pub fn judge(alloc: Global, worker: &WorkerDef) -> Result<Verdict, NoMemory>
+    ensures { IfOk result (Comes worker.now) }
+{
+    let units = units_of(alloc, worker.source.as_slice())?;
+    match check(alloc, &units)? {
+        Some(refusal) => Ok(Verdict::Refused(Reason::Faulty(refusal))),
+        None => judge_form(alloc, worker),
+    }
+}
+
+/// What a script comes to that is in the grammar and has no early fault.
+fn judge_form(alloc: Global, worker: &WorkerDef) -> Result<Verdict, NoMemory>
+    ensures { IfOk result (λ verdict. verdict ≡ answered (answer_for worker.now)) }
+{
+    match answer_for(alloc, worker)? {
+        Some(text) => Ok(Verdict::Answers(text)),
+        None => Ok(Verdict::Refused(Reason::OtherForm)),
+    }
+}
 
 /// The text that a script of the one form that is read answers to every request, and None for
 /// every other script.
@@ -21,7 +53,7 @@ fn answer_of(alloc: Global, source: &[u8]) -> Result<Option<Bytes>, NoMemory>
 
 /// The text that a Worker's script answers to every request, and None where it has not the one form
 /// that is read, which is a module's.
-pub fn answer_for(alloc: Global, worker: &WorkerDef) -> Result<Option<Bytes>, NoMemory>
+fn answer_for(alloc: Global, worker: &WorkerDef) -> Result<Option<Bytes>, NoMemory>
     ensures { IfOk result (λ found. found ≡ answer_for worker.now) }
 {
     match worker.form {

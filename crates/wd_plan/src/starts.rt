@@ -1,13 +1,13 @@
-ghost use Rattle.std.specs.Prelude.{◌≡◌, ◌<◌, [], ◌∷◌, ◌++◌, length, ◌+◌, IfOk, OnOk, is_some, slice_get, option_map};
+ghost use Rattle.std.specs.Prelude.{◌≡◌, ◌<◌, [], ◌∷◌, ◌++◌, length, ◌+◌, IfOk, OnOk, is_some, slice_get};
 ghost use Rattle.std.specs.Option.{option_copied};
 ghost use Rattle.wd_graph.specs.Graph.{workers_in};
 ghost use Rattle.wd_graph.specs.Names.{worker_at, worker_in};
 ghost use Rattle.wd_plan.specs.Constant.{first_constant};
-ghost use Rattle.wd_plan.specs.Script.{answer_for};
-ghost use Rattle.wd_plan.specs.Starts.{Starting, Starts, StartsNext, are_plain, are_at_workers, is_at_worker, is_plain_worker};
+ghost use Rattle.wd_plan.specs.Starts.{Starting, Starts, StartsNext, are_plain, are_at_workers, is_at_worker, is_plain_worker, refused};
 
 use crate::constant::Constant;
-use crate::script::answer_for;
+use crate::reason::{Reason, RefusedScript};
+use crate::script::{Verdict, judge};
 use std::alloc::Global;
 use wd_base::{Bytes, Form, Kind, NoMemory, Service, ServiceNo, Socket, TryClone, WorkerDef};
 use wd_graph::World;
@@ -17,31 +17,37 @@ use wd_graph::World;
 pub enum Started {
     /// The first isolates of the world's Workers, in order.
     Isolates(Vec<Constant>),
-    /// The name of the first Worker whose script is not read.
-    Refused(Bytes),
+    /// The first script that is refused.
+    Refused(RefusedScript),
 }
 
-/// The first isolate of a Worker, and None where its script is not read.
+/// The first isolate of a Worker whose script answers the text.
 fn start(
     alloc: Global,
     world: &World,
     no: ServiceNo,
     worker: &WorkerDef,
-) -> Result<Option<Constant>, NoMemory>
+    text: Bytes,
+) -> Result<Constant, NoMemory>
     requires { no.0 < length world.now.services }
-    ensures { IfOk result (λ isolate. isolate ≡ option_map (first_constant worker.now (workers_in world.now.services (worker_at (slice_get world.now.services no.0)))) (answer_for worker.now)) }
+    ensures { IfOk result (λ isolate. isolate ≡ first_constant worker.now (workers_in world.now.services (worker_at (slice_get world.now.services no.0))) text) }
 {
-    let Some(text) = answer_for(alloc, worker)? else {
-        return Ok(None);
-    };
     let workers = world.workers_of(alloc, no)?;
     let worker = worker.try_clone(alloc)?;
-    Ok(Some(Constant {
+    Ok(Constant {
         worker,
         workers,
         text,
         generation: 0,
-    }))
+    })
+}
+
+/// The script of a service, refused for this.
+fn refused(alloc: Global, service: &Service, reason: Reason) -> Result<RefusedScript, NoMemory>
+    ensures { IfOk result (λ script. script ≡ refused service.now reason) }
+{
+    let service = service.name.try_clone(alloc)?;
+    Ok(RefusedScript { service, reason })
 }
 
 /// The Worker that a service is, where it is one.
@@ -64,14 +70,14 @@ fn is_worker(service: &Service) -> bool
 }
 
 /// Starts the script of a service, where it is a Worker, behind the `isolates` of those before it;
-/// the Worker's name, where its script is not read.
+/// the script, where it is refused.
 #[tactic(auto, using(crate::proofs::StartSteps::starting_more, crate::proofs::StartSteps::starting_other, crate::proofs::StartSteps::starting_refused))]
 fn start_next(
     alloc: Global,
     world: &World,
     no: ServiceNo,
     isolates: &mut Vec<Constant>,
-) -> Result<Option<Bytes>, NoMemory>
+) -> Result<Option<RefusedScript>, NoMemory>
     requires within { no.0 < length world.now.services }
     requires starting { Starting world.now.services isolates.old.items no.0 }
     ensures { IfOk result (StartsNext world.now.services isolates.new.items (no.0 + 1)) }
@@ -80,24 +86,25 @@ fn start_next(
     let Some(worker) = worker_of(service) else {
         return Ok(None);
     };
-    match start(alloc, world, no, worker)? {
-        Some(isolate) => {
+    match judge(alloc, worker)? {
+        Verdict::Answers(text) => {
+            let isolate = start(alloc, world, no, worker, text)?;
             add(isolates, isolate)?;
             Ok(None)
         }
-        None => Ok(Some(service.name.try_clone(alloc)?)),
+        Verdict::Refused(reason) => Ok(Some(refused(alloc, service, reason)?)),
     }
 }
 
-/// Starts the scripts of a world's Workers, in order, up to the first that is not read.
+/// Starts the scripts of a world's Workers, in order, up to the first script that is refused.
 #[tactic(auto, using(crate::proofs::StartSteps::starting_first, crate::proofs::StartSteps::started_all))]
 pub fn start_all(alloc: Global, world: &World) -> Result<Started, NoMemory>
     ensures { IfOk result (λ started. Starts world.now started) }
 {
     let mut isolates = Vec::new(alloc);
     for number in 0..world.count() {
-        if let Some(name) = start_next(alloc, world, ServiceNo(number), &mut isolates)? {
-            return Ok(Started::Refused(name));
+        if let Some(script) = start_next(alloc, world, ServiceNo(number), &mut isolates)? {
+            return Ok(Started::Refused(script));
         }
     }
     Ok(Started::Isolates(isolates))

@@ -1,7 +1,7 @@
 //! Command lines, refusals' texts, and what is ready for a configuration. What is expected was
 //! worked out by hand.
 
-use crate::{PlanEnd, Refusal, Verb, prepare, serves};
+use crate::{PlanEnd, Reason, Refusal, RefusedScript, Verb, prepare, serves};
 use capnp_text::TextKind;
 use std::alloc::Global;
 use std::test::Fail;
@@ -47,16 +47,22 @@ fn words_of(alloc: Global, words: &[&str]) -> Result<Vec<String>, NoMemory> {
     Ok(list)
 }
 
-fn files_of(alloc: Global) -> Result<MemFiles, NoMemory> {
+fn add_file(
+    alloc: Global,
+    files: &mut MemFiles,
+    path: &[u8],
+    bytes: &[u8],
+) -> Result<(), NoMemory> {
+    let path = Seq::copy(alloc, path)?;
+    files.files.push((path, Seq::copy(alloc, bytes)?))
+}
+
+/// The configuration, with a script of the service `a` and one of `b`.
+fn files_of(alloc: Global, first: &[u8], second: &[u8]) -> Result<MemFiles, NoMemory> {
     let mut files = MemFiles::new(alloc);
-    for (path, bytes) in [
-        (b"etc/config.capnp".as_slice(), CONFIG),
-        (b"etc/hello.js".as_slice(), HELLO),
-        (b"etc/bye.js".as_slice(), BYE),
-    ] {
-        let path = Seq::copy(alloc, path)?;
-        files.files.push((path, Seq::copy(alloc, bytes)?))?;
-    }
+    add_file(alloc, &mut files, b"etc/config.capnp", CONFIG)?;
+    add_file(alloc, &mut files, b"etc/hello.js", first)?;
+    add_file(alloc, &mut files, b"etc/bye.js", second)?;
     Ok(files)
 }
 
@@ -195,6 +201,10 @@ fn each_refusal_has_its_text(rt: HostRuntime) -> Result<(), Fail> {
         from: Seq::copy(alloc, b"front")?,
         name: Seq::copy(alloc, b"back")?,
     };
+    let script = RefusedScript {
+        service: Seq::copy(alloc, b"main")?,
+        reason: Reason::OtherForm,
+    };
     let cases: [(Refusal, u8, &[u8]); 5] = [
         (Refusal::CommandLine, 1, b"error: command line\n"),
         (
@@ -213,7 +223,7 @@ fn each_refusal_has_its_text(rt: HostRuntime) -> Result<(), Fail> {
             b"error: link UnknownService front -> back\n",
         ),
         (
-            Refusal::Script(Seq::copy(alloc, b"main")?),
+            Refusal::Script(script),
             3,
             b"error: script main: LeftOut form at 0\n",
         ),
@@ -230,7 +240,7 @@ fn each_refusal_has_its_text(rt: HostRuntime) -> Result<(), Fail> {
 
 #[test]
 fn what_is_ready(rt: HostRuntime) -> Result<(), Fail> {
-    let mut files = files_of(rt.alloc())?;
+    let mut files = files_of(rt.alloc(), HELLO, BYE)?;
     let words = words_of(rt.alloc(), &["serve", "etc/config.capnp", "main"])?;
     let Ok(ready) = prepare(rt.alloc(), words.as_slice(), &mut files) else {
         return Err(Fail::new("nothing is ready"));
@@ -242,5 +252,86 @@ fn what_is_ready(rt: HostRuntime) -> Result<(), Fail> {
     };
     assert!(rt; hello.text.as_slice() == b"hello\n".as_slice());
     assert!(rt; bye.text.as_slice() == b"bye".as_slice());
+    Ok(())
+}
+
+/// What is printed of the refusal, with `etc` holding these two scripts; nothing, where there is
+/// none.
+fn refused(alloc: Global, verb: &str, first: &[u8], second: &[u8]) -> Result<Vec<u8>, NoMemory> {
+    let mut files = files_of(alloc, first, second)?;
+    let words = words_of(alloc, &[verb, "etc/config.capnp", "main"])?;
+    match prepare(alloc, words.as_slice(), &mut files) {
+        Ok(_) => Ok(Vec::new(alloc)),
+        Err(PlanEnd::Refused(refusal)) => refusal.text(alloc),
+        Err(PlanEnd::NoMemory) => Err(NoMemory),
+    }
+}
+
+#[test]
+fn each_fault_of_a_script_has_its_text(rt: HostRuntime) -> Result<(), Fail> {
+    // a script, and what is printed of it
+    let rows: [(&[u8], &[u8]); 16] = [
+        (b"export default {", b"error: script a: Syntax at 16\n"),
+        (b"a b", b"error: script a: Syntax at 2\n"),
+        (b"class A {}", b"error: script a: LeftOut class at 0\n"),
+        (
+            b"let rate = 0.5",
+            b"error: script a: LeftOut number at 11\n",
+        ),
+        (b"f(...a)", b"error: script a: LeftOut ... at 2\n"),
+        (
+            b"a = /b/",
+            b"error: script a: LeftOut regular expression at 4\n",
+        ),
+        (
+            b"\xEF\xBB\xBF'\xC3\xA9' b",
+            b"error: script a: Syntax at 4\n",
+        ),
+        (b"let a; let a;", b"error: script a: DoubleName at 11\n"),
+        (b"if (a) return", b"error: script a: ReturnOutside at 7\n"),
+        (b"await a", b"error: script a: AwaitOutside at 0\n"),
+        (b"a => { break }", b"error: script a: BreakOutside at 7\n"),
+        (b"let a; let a; a b", b"error: script a: Syntax at 16\n"),
+        (b"", b"error: script a: LeftOut form at 0\n"),
+        (
+            b"export default {};",
+            b"error: script a: LeftOut form at 0\n",
+        ),
+        (
+            b"// hello\nexport default { async fetch(a) { return a } };",
+            b"error: script a: LeftOut form at 0\n",
+        ),
+        (HELLO, b""),
+    ];
+    let alloc = rt.alloc();
+    for (script, text) in rows {
+        assert!(rt;
+            refused(alloc, "check", script, HELLO)?.as_slice() == text,
+            "{script:?}"
+        );
+        assert!(rt;
+            refused(alloc, "serve", script, HELLO)?.as_slice() == text,
+            "{script:?}"
+        );
+    }
+    Ok(())
+}
+
+#[test]
+fn scripts_are_refused_in_the_order_of_services(rt: HostRuntime) -> Result<(), Fail> {
+    // the script of the first Worker, that of the second, and what is printed
+    let rows: [(&[u8], &[u8], &[u8]); 4] = [
+        (HELLO, b"a b", b"error: script b: Syntax at 2\n"),
+        (b"break", b"a b", b"error: script a: BreakOutside at 0\n"),
+        (b"", b"a b", b"error: script a: LeftOut form at 0\n"),
+        (HELLO, b"", b"error: script b: LeftOut form at 0\n"),
+    ];
+    let alloc = rt.alloc();
+    for (first, second, text) in rows {
+        assert!(rt;
+            refused(alloc, "check", first, second)?.as_slice() == text,
+            "{second:?}"
+        );
+    }
     Ok(())
 }

@@ -77,7 +77,7 @@ early_lift words files rr mr mr' world (outcome.Refused (refusal.MissingFile pat
 early_lift words files rr mr mr' world (outcome.Refused (refusal.FileFault path)) e caused = caused
 early_lift words files rr mr mr' world (outcome.Refused (refusal.Config fault)) e caused = caused
 early_lift words files rr mr mr' world (outcome.Refused (refusal.Link fault)) e caused = caused
-early_lift words files rr mr mr' world (outcome.Refused (refusal.Script name)) e caused = caused
+early_lift words files rr mr mr' world (outcome.Refused (refusal.Script script)) e caused = caused
 early_lift words files rr mr mr' world (outcome.NoPort seat) e caused = absurd e
 early_lift words files rr mr mr' world (outcome.NoListen address) e caused = absurd e
 early_lift words files rr mr mr' world outcome.NoMemory e caused = tt
@@ -90,7 +90,7 @@ refused_caused words files rr mr (refusal.MissingFile name) plan failed path non
 refused_caused words files rr mr (refusal.FileFault name) plan failed path none = (no_world, (failed, path))
 refused_caused words files rr mr (refusal.Config fault) plan failed path none = (no_world, plan)
 refused_caused words files rr mr (refusal.Link fault) plan failed path none = (no_world, plan)
-refused_caused words files rr mr (refusal.Script name) plan failed path none = (no_world, plan)
+refused_caused words files rr mr (refusal.Script script) plan failed path none = (no_world, plan)
 
 pub end_caused : (words : List (List ℕ)) (files : Option Stored) (rr mr : Type 0) (e : PlanEnd) (why : Refusal) → e ≡ end.Refused why → IfSome files (λ s. IfSome (plan_of_end e) (Plans words s)) → OnEndFault e (λ path. rr) → OnEndFault e (IsReadPath words files) → (e ≡ end.Refused refusal.CommandLine → command words ≡ None)
     → IsCaused (record { words = words; files = files; read_failed = rr; maker_failed = mr }) (outcome.Refused why)
@@ -159,7 +159,7 @@ by_refusal words s rr mr sr (refusal.MissingFile path) asked status caused asks 
 by_refusal words s rr mr sr (refusal.FileFault path) asked status caused asks e = inr (inl (e, caused.0))
 by_refusal words s rr mr sr (refusal.Config fault) asked status caused asks e = by_plan words s rr sr (Refuses (refusal.Config fault)) asked status asks caused e
 by_refusal words s rr mr sr (refusal.Link fault) asked status caused asks e = by_plan words s rr sr (Refuses (refusal.Link fault)) asked status asks caused e
-by_refusal words s rr mr sr (refusal.Script name) asked status caused asks e = by_plan words s rr sr (Refuses (refusal.Script name)) asked status asks caused e
+by_refusal words s rr mr sr (refusal.Script script) asked status caused asks e = by_plan words s rr sr (Refuses (refusal.Script script)) asked status asks caused e
 
 by_outcome : (words : List (List ℕ)) (s : Stored) (rr mr sr : Type 0) (world : Config) (o : Outcome) (asked : Plan) (status : ℕ) → Caused (told_call words s rr mr) world o → Plans words s asked → status ≡ status_of o → status_for asked status ⊎ Else rr sr status
 by_outcome words s rr mr sr world outcome.Done asked status caused asks e = by_plan words s rr sr (Starts verb.Serve world) asked status asks caused (inl e)

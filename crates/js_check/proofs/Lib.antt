@@ -1,0 +1,2 @@
+mod VerdictLaws
+pub mod OneVerdict
