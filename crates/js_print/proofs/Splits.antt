@@ -1,5 +1,5 @@
 -- The tasks of an expression: its tokens and its parts.
-use Rattle.std.proofs.Common.{◌≡◌, ℕ, ◌≤◌, ◌+◌, arith, Bool, List, [], ◌∷◌, ◌++◌, map, Option, option_map, Result, OnOk, Bor, refl, sym, ap, ◌∙◌}
+use Rattle.std.proofs.Common.{◌≡◌, ℕ, ◌≤◌, ◌+◌, arith, Bool, List, [], ◌∷◌, ◌++◌, map, Option, option_map, Result, OnOk, Bor, refl, sym, subst, ap, ◌∙◌}
 use Rattle.js_lex.specs.declared.token.TokenKind.TheVariants as tok
 use Rattle.js_lex.specs.declared.token.Punctuator.{Punctuator}
 use Rattle.js_lex.specs.declared.token.Punctuator.TheVariants as p
@@ -42,6 +42,10 @@ use Rattle.js_tree.specs.Weight as weight
 use Rattle.js_tree.proofs.Weights as eqw
 use Rattle.js_print.proofs.PlainLaws.{Kinds, plain_then, plain_deeper, plain_enclosed}
 use Rattle.js_print.proofs.NodeKinds.{Tasks, split_as, seen_as, deeper_kinds, then_deeper, member_kinds, index_kinds, call_kinds, conditional_kinds, function_kinds, arrow_kinds, key_kinds, method_kinds, headed_kinds, headed_body, for_kinds, line_kinds, try_kinds}
+
+-- the tasks of an expression are those of its form
+pub as_expr : {T E : Type 0} (got : Result T E) (old new : Tasks) (x y : Expr) → x ≡ y → OnOk got (IsSplit old ((of_expr y).forms) (weight.of_expr y) new) → OnOk got (IsSplit old ((of_expr x).forms) (weight.of_expr x) new)
+as_expr got old new x y e h = subst (λ (z : Expr). OnOk got (IsSplit old ((of_expr z).forms) (weight.of_expr z) new)) (sym e) h
 
 pub on_variable : {T E : Type 0} (got : Result T E) (old new : Tasks) (b : Bor Name) (x : Target) (n : Name) → OnOk got (new ≡ piece.Name b ∷ old) → x ≡ target.Variable n → b.now ≡ n → OnOk got (IsSplit old ((of_target x).forms) (weight.of_target x) new)
 on_variable got old new b x n a e e_b =

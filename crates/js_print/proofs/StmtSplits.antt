@@ -1,5 +1,5 @@
 -- The tasks of a statement, of a member of an object and of what a `for` begins with.
-use Rattle.std.proofs.Common.{◌≡◌, ℕ, ◌≤◌, ◌+◌, arith, Bool, List, [], ◌∷◌, ◌++◌, map, Option, option_map, Result, OnOk, Bor, refl, sym, ap, ◌∙◌}
+use Rattle.std.proofs.Common.{◌≡◌, ℕ, ◌≤◌, ◌+◌, arith, Bool, List, [], ◌∷◌, ◌++◌, map, Option, option_map, Result, OnOk, Bor, refl, sym, subst, ap, ◌∙◌}
 use Rattle.js_lex.specs.declared.token.TokenKind.TheVariants as tok
 use Rattle.js_lex.specs.declared.token.Punctuator.{Punctuator}
 use Rattle.js_lex.specs.declared.token.Punctuator.TheVariants as p
@@ -36,6 +36,10 @@ use Rattle.js_tree.specs.Weight as weight
 use Rattle.js_tree.proofs.Weights as eqw
 use Rattle.js_print.proofs.PlainLaws.{Kinds, plain_then, plain_enclosed}
 use Rattle.js_print.proofs.NodeKinds.{Tasks, split_as, deeper_kinds, then_deeper, member_kinds, index_kinds, call_kinds, conditional_kinds, function_kinds, arrow_kinds, key_kinds, method_kinds, headed_kinds, headed_body, for_kinds, line_kinds, try_kinds}
+
+-- the tasks of a statement are those of its form
+pub as_stmt : {T E : Type 0} (got : Result T E) (old new : Tasks) (x y : Stmt) → x ≡ y → OnOk got (IsSplit old ((of_stmt y).forms) (weight.of_stmt y) new) → OnOk got (IsSplit old ((of_stmt x).forms) (weight.of_stmt x) new)
+as_stmt got old new x y e h = subst (λ (z : Stmt). OnOk got (IsSplit old ((of_stmt z).forms) (weight.of_stmt z) new)) (sym e) h
 
 pub on_pair : {T E : Type 0} (got : Result T E) (old new : Tasks) (b : Bor Key) (b2 : Bor Expr) (x : Property) (k : Key) (v : Expr) → OnOk got (new ≡ piece.Key b ∷ piece.Sign p.Colon ∷ piece.Expr b2 ∷ old) → x ≡ property.Pair k v → b.now ≡ k → b2.now ≡ v → OnOk got (IsSplit old (of_property x) (weight.of_property x) new)
 on_pair got old new b b2 x k v a e e_b e_b2 =

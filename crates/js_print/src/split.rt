@@ -1,15 +1,17 @@
 ghost use Rattle.std.specs.Prelude.{◌≡◌, ◌++◌, [], ◌∷◌, ◌+◌, map, OnOk};
 ghost use Rattle.js_grammar.specs.Grammar as grammar;
 ghost use Rattle.js_tree.specs.Weight as weight;
+ghost use Rattle.js_tree.specs.declared.tree.Expr.TheVariants as exprs;
 ghost use Rattle.js_print.specs.Walk.{IsSplit};
 
 use crate::piece::Piece;
 use js_lex::{Punctuator, Reserved, TemplatePart};
 use js_tree::{
-    ArrowBody, AssignOp, BinaryOp, Expr, Function, Name, Target, TemplateItem, UnaryOp, UpdateOp,
-    UpdateSide,
+    ArrowBody, AssignOp, BinaryOp, Expr, Function, Name, Property, Target, TemplateItem, UnaryOp,
+    UpdateOp, UpdateSide,
 };
-use wd_base::{NoMemory, Stack};
+use sqlite_items::Boxed;
+use wd_base::{NoMemory, Seq, Stack};
 
 /// Puts pieces on the tasks, the first one on top.
 pub(crate) fn put<'a>(tasks: &mut Stack<Piece<'a>>, pieces: &[Piece<'a>]) -> Result<(), NoMemory>
@@ -212,6 +214,224 @@ fn put_update<'a>(
     }
 }
 
+/// Puts an array on the tasks.
+fn put_array<'a>(tasks: &mut Stack<Piece<'a>>, items: &'a Seq<Expr>) -> Result<(), NoMemory>
+    ensures { OnOk result (IsSplit tasks.old (grammar.of_expr (exprs.Array items.now)).forms (weight.of_expr (exprs.Array items.now)) tasks.new) }
+{
+    put(
+        tasks,
+        &[
+            Piece::Sign(Punctuator::OpenBracket),
+            Piece::Exprs(items.as_slice()),
+            Piece::Sign(Punctuator::CloseBracket),
+        ],
+    )
+}
+
+/// Puts an object on the tasks.
+fn put_object<'a>(
+    tasks: &mut Stack<Piece<'a>>,
+    properties: &'a Seq<Property>,
+) -> Result<(), NoMemory>
+    ensures { OnOk result (IsSplit tasks.old (grammar.of_expr (exprs.Object properties.now)).forms (weight.of_expr (exprs.Object properties.now)) tasks.new) }
+{
+    put(
+        tasks,
+        &[
+            Piece::Sign(Punctuator::OpenBrace),
+            Piece::Properties(properties.as_slice()),
+            Piece::Sign(Punctuator::CloseBrace),
+        ],
+    )
+}
+
+/// Puts a function, with its name where it has one, on the tasks.
+fn put_function<'a>(
+    tasks: &mut Stack<Piece<'a>>,
+    name: &'a Option<Name>,
+    function: &'a Function,
+) -> Result<(), NoMemory>
+    ensures { OnOk result (IsSplit tasks.old (grammar.of_expr (exprs.Function name.now function.now)).forms (weight.of_expr (exprs.Function name.now function.now)) tasks.new) }
+{
+    put(
+        tasks,
+        &[
+            Piece::Async(function.is_async),
+            Piece::Word(Reserved::Function),
+            Piece::OptionalName(name),
+            Piece::Function(function),
+        ],
+    )
+}
+
+/// Puts an arrow on the tasks.
+fn put_arrow<'a>(
+    tasks: &mut Stack<Piece<'a>>,
+    is_async: bool,
+    parameters: &'a Seq<Name>,
+    body: &'a ArrowBody,
+) -> Result<(), NoMemory>
+    ensures { OnOk result (IsSplit tasks.old (grammar.of_expr (exprs.Arrow is_async parameters.now body.now)).forms (weight.of_expr (exprs.Arrow is_async parameters.now body.now)) tasks.new) }
+{
+    put(
+        tasks,
+        &[
+            Piece::Async(is_async),
+            Piece::ArrowParameters(parameters.as_slice()),
+            Piece::ArrowBody(body),
+        ],
+    )
+}
+
+/// Puts an expression in parentheses on the tasks.
+fn put_group<'a>(tasks: &mut Stack<Piece<'a>>, inner: &'a Boxed<Expr>) -> Result<(), NoMemory>
+    ensures { OnOk result (IsSplit tasks.old (grammar.of_expr (exprs.Group inner.now)).forms (weight.of_expr (exprs.Group inner.now)) tasks.new) }
+{
+    put(
+        tasks,
+        &[
+            Piece::Sign(Punctuator::OpenParen),
+            Piece::Expr(inner.get()),
+            Piece::Sign(Punctuator::CloseParen),
+        ],
+    )
+}
+
+/// Puts an operator between its operands on the tasks.
+fn put_binary<'a>(
+    tasks: &mut Stack<Piece<'a>>,
+    op: BinaryOp,
+    left: &'a Boxed<Expr>,
+    right: &'a Boxed<Expr>,
+) -> Result<(), NoMemory>
+    ensures { OnOk result (IsSplit tasks.old (grammar.of_expr (exprs.Binary op left.now right.now)).forms (weight.of_expr (exprs.Binary op left.now right.now)) tasks.new) }
+{
+    put(
+        tasks,
+        &[
+            Piece::Expr(left.get()),
+            Piece::Sign(binary_sign(op)),
+            Piece::Expr(right.get()),
+        ],
+    )
+}
+
+/// Puts a condition with its branches on the tasks.
+fn put_conditional<'a>(
+    tasks: &mut Stack<Piece<'a>>,
+    test: &'a Boxed<Expr>,
+    yes: &'a Boxed<Expr>,
+    no: &'a Boxed<Expr>,
+) -> Result<(), NoMemory>
+    ensures { OnOk result (IsSplit tasks.old (grammar.of_expr (exprs.Conditional test.now yes.now no.now)).forms (weight.of_expr (exprs.Conditional test.now yes.now no.now)) tasks.new) }
+{
+    put(
+        tasks,
+        &[
+            Piece::Expr(test.get()),
+            Piece::Sign(Punctuator::Question),
+            Piece::Expr(yes.get()),
+            Piece::Sign(Punctuator::Colon),
+            Piece::Expr(no.get()),
+        ],
+    )
+}
+
+/// Puts an assignment on the tasks.
+fn put_assign<'a>(
+    tasks: &mut Stack<Piece<'a>>,
+    op: AssignOp,
+    target: &'a Target,
+    value: &'a Boxed<Expr>,
+) -> Result<(), NoMemory>
+    ensures { OnOk result (IsSplit tasks.old (grammar.of_expr (exprs.Assign op target.now value.now)).forms (weight.of_expr (exprs.Assign op target.now value.now)) tasks.new) }
+{
+    put(
+        tasks,
+        &[
+            Piece::Target(target),
+            Piece::Sign(assign_sign(op)),
+            Piece::Expr(value.get()),
+        ],
+    )
+}
+
+/// Puts a call on the tasks.
+fn put_call<'a>(
+    tasks: &mut Stack<Piece<'a>>,
+    callee: &'a Boxed<Expr>,
+    arguments: &'a Seq<Expr>,
+) -> Result<(), NoMemory>
+    ensures { OnOk result (IsSplit tasks.old (grammar.of_expr (exprs.Call callee.now arguments.now)).forms (weight.of_expr (exprs.Call callee.now arguments.now)) tasks.new) }
+{
+    put(
+        tasks,
+        &[
+            Piece::Expr(callee.get()),
+            Piece::Sign(Punctuator::OpenParen),
+            Piece::Exprs(arguments.as_slice()),
+            Piece::Sign(Punctuator::CloseParen),
+        ],
+    )
+}
+
+/// Puts a `new` on the tasks.
+fn put_new<'a>(
+    tasks: &mut Stack<Piece<'a>>,
+    name: &'a Name,
+    arguments: &'a Seq<Expr>,
+) -> Result<(), NoMemory>
+    ensures { OnOk result (IsSplit tasks.old (grammar.of_expr (exprs.New name.now arguments.now)).forms (weight.of_expr (exprs.New name.now arguments.now)) tasks.new) }
+{
+    put(
+        tasks,
+        &[
+            Piece::Word(Reserved::New),
+            Piece::Name(name),
+            Piece::Sign(Punctuator::OpenParen),
+            Piece::Exprs(arguments.as_slice()),
+            Piece::Sign(Punctuator::CloseParen),
+        ],
+    )
+}
+
+/// Puts a member by its name on the tasks.
+fn put_member<'a>(
+    tasks: &mut Stack<Piece<'a>>,
+    object: &'a Boxed<Expr>,
+    name: &'a Name,
+) -> Result<(), NoMemory>
+    ensures { OnOk result (IsSplit tasks.old (grammar.of_expr (exprs.Member object.now name.now)).forms (weight.of_expr (exprs.Member object.now name.now)) tasks.new) }
+{
+    put(
+        tasks,
+        &[
+            Piece::Expr(object.get()),
+            Piece::Sign(Punctuator::Dot),
+            Piece::Name(name),
+        ],
+    )
+}
+
+/// Puts a member by its key on the tasks.
+fn put_index<'a>(
+    tasks: &mut Stack<Piece<'a>>,
+    object: &'a Boxed<Expr>,
+    key: &'a Boxed<Expr>,
+) -> Result<(), NoMemory>
+    ensures { OnOk result (IsSplit tasks.old (grammar.of_expr (exprs.Index object.now key.now)).forms (weight.of_expr (exprs.Index object.now key.now)) tasks.new) }
+{
+    put(
+        tasks,
+        &[
+            Piece::Expr(object.get()),
+            Piece::Sign(Punctuator::OpenBracket),
+            Piece::Expr(key.get()),
+            Piece::Sign(Punctuator::CloseBracket),
+        ],
+    )
+}
+
 /// Puts the tokens and the parts of an expression on the tasks.
 pub(crate) fn split_expr<'a>(tasks: &mut Stack<Piece<'a>>, expr: &'a Expr) -> Result<(), NoMemory>
     ensures { OnOk result (IsSplit tasks.old (grammar.of_expr expr.now).forms (weight.of_expr expr.now) tasks.new) }
@@ -225,118 +445,27 @@ pub(crate) fn split_expr<'a>(tasks: &mut Stack<Piece<'a>>, expr: &'a Expr) -> Re
         Expr::Null => put(tasks, &[Piece::Word(Reserved::Null)]),
         Expr::This => put(tasks, &[Piece::Word(Reserved::This)]),
         Expr::Template(items, last) => put_template(tasks, items.as_slice(), last.as_slice()),
-        Expr::Array(items) => put(
-            tasks,
-            &[
-                Piece::Sign(Punctuator::OpenBracket),
-                Piece::Exprs(items.as_slice()),
-                Piece::Sign(Punctuator::CloseBracket),
-            ],
-        ),
-        Expr::Object(properties) => put(
-            tasks,
-            &[
-                Piece::Sign(Punctuator::OpenBrace),
-                Piece::Properties(properties.as_slice()),
-                Piece::Sign(Punctuator::CloseBrace),
-            ],
-        ),
-        Expr::Function(name, function) => put(
-            tasks,
-            &[
-                Piece::Async(function.is_async),
-                Piece::Word(Reserved::Function),
-                Piece::OptionalName(name),
-                Piece::Function(function),
-            ],
-        ),
+        Expr::Array(items) => put_array(tasks, items),
+        Expr::Object(properties) => put_object(tasks, properties),
+        Expr::Function(name, function) => put_function(tasks, name, function),
         Expr::Arrow {
             is_async,
             parameters,
             body,
-        } => put(
-            tasks,
-            &[
-                Piece::Async(*is_async),
-                Piece::ArrowParameters(parameters.as_slice()),
-                Piece::ArrowBody(body),
-            ],
-        ),
-        Expr::Group(inner) => put(
-            tasks,
-            &[
-                Piece::Sign(Punctuator::OpenParen),
-                Piece::Expr(inner.get()),
-                Piece::Sign(Punctuator::CloseParen),
-            ],
-        ),
+        } => put_arrow(tasks, *is_async, parameters, body),
+        Expr::Group(inner) => put_group(tasks, inner),
         Expr::Unary(op, value) => put_unary(tasks, *op, value.get()),
         Expr::Await(_, value) => put(
             tasks,
             &[Piece::Word(Reserved::Await), Piece::Expr(value.get())],
         ),
         Expr::Update(side, op, target) => put_update(tasks, *side, *op, target),
-        Expr::Binary(op, left, right) => put(
-            tasks,
-            &[
-                Piece::Expr(left.get()),
-                Piece::Sign(binary_sign(*op)),
-                Piece::Expr(right.get()),
-            ],
-        ),
-        Expr::Conditional(test, yes, no) => put(
-            tasks,
-            &[
-                Piece::Expr(test.get()),
-                Piece::Sign(Punctuator::Question),
-                Piece::Expr(yes.get()),
-                Piece::Sign(Punctuator::Colon),
-                Piece::Expr(no.get()),
-            ],
-        ),
-        Expr::Assign(op, target, value) => put(
-            tasks,
-            &[
-                Piece::Target(target),
-                Piece::Sign(assign_sign(*op)),
-                Piece::Expr(value.get()),
-            ],
-        ),
-        Expr::Call(callee, arguments) => put(
-            tasks,
-            &[
-                Piece::Expr(callee.get()),
-                Piece::Sign(Punctuator::OpenParen),
-                Piece::Exprs(arguments.as_slice()),
-                Piece::Sign(Punctuator::CloseParen),
-            ],
-        ),
-        Expr::New(name, arguments) => put(
-            tasks,
-            &[
-                Piece::Word(Reserved::New),
-                Piece::Name(name),
-                Piece::Sign(Punctuator::OpenParen),
-                Piece::Exprs(arguments.as_slice()),
-                Piece::Sign(Punctuator::CloseParen),
-            ],
-        ),
-        Expr::Member(object, name) => put(
-            tasks,
-            &[
-                Piece::Expr(object.get()),
-                Piece::Sign(Punctuator::Dot),
-                Piece::Name(name),
-            ],
-        ),
-        Expr::Index(object, key) => put(
-            tasks,
-            &[
-                Piece::Expr(object.get()),
-                Piece::Sign(Punctuator::OpenBracket),
-                Piece::Expr(key.get()),
-                Piece::Sign(Punctuator::CloseBracket),
-            ],
-        ),
+        Expr::Binary(op, left, right) => put_binary(tasks, *op, left, right),
+        Expr::Conditional(test, yes, no) => put_conditional(tasks, test, yes, no),
+        Expr::Assign(op, target, value) => put_assign(tasks, *op, target, value),
+        Expr::Call(callee, arguments) => put_call(tasks, callee, arguments),
+        Expr::New(name, arguments) => put_new(tasks, name, arguments),
+        Expr::Member(object, name) => put_member(tasks, object, name),
+        Expr::Index(object, key) => put_index(tasks, object, key),
     }
 }

@@ -1,12 +1,13 @@
 ghost use Rattle.std.specs.Prelude.{◌≡◌, ◌+◌, map, option_map, OnOk};
 ghost use Rattle.js_grammar.specs.Grammar as grammar;
 ghost use Rattle.js_tree.specs.Weight as weight;
+ghost use Rattle.js_tree.specs.declared.tree.Stmt.TheVariants as stmts;
 ghost use Rattle.js_print.specs.Walk.{IsSplit};
 
 use crate::piece::Piece;
 use crate::split::put;
 use js_lex::{Punctuator, Reserved};
-use js_tree::{Catch, DeclareKind, ForBegin, Stmt};
+use js_tree::{Catch, Declaration, DeclareKind, Expr, ForBegin, Function, Name, Stmt};
 use sqlite_items::Boxed;
 use wd_base::{NoMemory, Seq, Stack};
 
@@ -102,94 +103,208 @@ pub(crate) fn split_finally<'a>(
     }
 }
 
+/// Puts declarations with their word on the tasks.
+fn put_declare<'a>(
+    tasks: &mut Stack<Piece<'a>>,
+    kind: DeclareKind,
+    declarations: &'a Seq<Declaration>,
+) -> Result<(), NoMemory>
+    ensures { OnOk result (IsSplit tasks.old (grammar.of_stmt (stmts.Declare kind declarations.now)).forms (weight.of_stmt (stmts.Declare kind declarations.now)) tasks.new) }
+{
+    put(
+        tasks,
+        &[
+            Piece::Word(declare_word(kind)),
+            Piece::Declarations(declarations.as_slice()),
+            Piece::Sign(Punctuator::Semicolon),
+        ],
+    )
+}
+
+/// Puts the declaration of a function on the tasks.
+fn put_declare_function<'a>(
+    tasks: &mut Stack<Piece<'a>>,
+    name: &'a Name,
+    function: &'a Function,
+) -> Result<(), NoMemory>
+    ensures { OnOk result (IsSplit tasks.old (grammar.of_stmt (stmts.DeclareFunction name.now function.now)).forms (weight.of_stmt (stmts.DeclareFunction name.now function.now)) tasks.new) }
+{
+    put(
+        tasks,
+        &[
+            Piece::Async(function.is_async),
+            Piece::Word(Reserved::Function),
+            Piece::Name(name),
+            Piece::Function(function),
+        ],
+    )
+}
+
+/// Puts a block on the tasks.
+fn put_block<'a>(tasks: &mut Stack<Piece<'a>>, body: &'a Seq<Stmt>) -> Result<(), NoMemory>
+    ensures { OnOk result (IsSplit tasks.old (grammar.of_stmt (stmts.Block body.now)).forms (weight.of_stmt (stmts.Block body.now)) tasks.new) }
+{
+    put(
+        tasks,
+        &[
+            Piece::Sign(Punctuator::OpenBrace),
+            Piece::Stmts(body.as_slice()),
+            Piece::Sign(Punctuator::CloseBrace),
+        ],
+    )
+}
+
+/// Puts an `if` on the tasks.
+fn put_if<'a>(
+    tasks: &mut Stack<Piece<'a>>,
+    test: &'a Expr,
+    yes: &'a Boxed<Stmt>,
+    no: &'a Option<Boxed<Stmt>>,
+) -> Result<(), NoMemory>
+    ensures { OnOk result (IsSplit tasks.old (grammar.of_stmt (stmts.If test.now yes.now no.now)).forms (weight.of_stmt (stmts.If test.now yes.now no.now)) tasks.new) }
+{
+    put(
+        tasks,
+        &[
+            Piece::Word(Reserved::If),
+            Piece::Sign(Punctuator::OpenParen),
+            Piece::Expr(test),
+            Piece::Sign(Punctuator::CloseParen),
+            Piece::Stmt(yes.get()),
+            Piece::Else(no),
+        ],
+    )
+}
+
+/// Puts a `for` with its three parts on the tasks.
+fn put_for<'a>(
+    tasks: &mut Stack<Piece<'a>>,
+    begin: &'a ForBegin,
+    test: &'a Option<Expr>,
+    update: &'a Option<Expr>,
+    body: &'a Boxed<Stmt>,
+) -> Result<(), NoMemory>
+    ensures { OnOk result (IsSplit tasks.old (grammar.of_stmt (stmts.For begin.now test.now update.now body.now)).forms (weight.of_stmt (stmts.For begin.now test.now update.now body.now)) tasks.new) }
+{
+    put(
+        tasks,
+        &[
+            Piece::Word(Reserved::For),
+            Piece::Sign(Punctuator::OpenParen),
+            Piece::ForBegin(begin),
+            Piece::Sign(Punctuator::Semicolon),
+            Piece::OptionalExpr(test),
+            Piece::Sign(Punctuator::Semicolon),
+            Piece::OptionalExpr(update),
+            Piece::Sign(Punctuator::CloseParen),
+            Piece::Stmt(body.get()),
+        ],
+    )
+}
+
+/// Puts a `for` along a value on the tasks.
+fn put_for_of<'a>(
+    tasks: &mut Stack<Piece<'a>>,
+    kind: DeclareKind,
+    name: &'a Name,
+    value: &'a Expr,
+    body: &'a Boxed<Stmt>,
+) -> Result<(), NoMemory>
+    ensures { OnOk result (IsSplit tasks.old (grammar.of_stmt (stmts.ForOf kind name.now value.now body.now)).forms (weight.of_stmt (stmts.ForOf kind name.now value.now body.now)) tasks.new) }
+{
+    put(
+        tasks,
+        &[
+            Piece::Word(Reserved::For),
+            Piece::Sign(Punctuator::OpenParen),
+            Piece::Word(declare_word(kind)),
+            Piece::Name(name),
+            Piece::Plain(b"of"),
+            Piece::Expr(value),
+            Piece::Sign(Punctuator::CloseParen),
+            Piece::Stmt(body.get()),
+        ],
+    )
+}
+
+/// Puts a `while` on the tasks.
+fn put_while<'a>(
+    tasks: &mut Stack<Piece<'a>>,
+    test: &'a Expr,
+    body: &'a Boxed<Stmt>,
+) -> Result<(), NoMemory>
+    ensures { OnOk result (IsSplit tasks.old (grammar.of_stmt (stmts.While test.now body.now)).forms (weight.of_stmt (stmts.While test.now body.now)) tasks.new) }
+{
+    put(
+        tasks,
+        &[
+            Piece::Word(Reserved::While),
+            Piece::Sign(Punctuator::OpenParen),
+            Piece::Expr(test),
+            Piece::Sign(Punctuator::CloseParen),
+            Piece::Stmt(body.get()),
+        ],
+    )
+}
+
+/// Puts a `throw` on the tasks.
+fn put_throw<'a>(tasks: &mut Stack<Piece<'a>>, value: &'a Expr) -> Result<(), NoMemory>
+    ensures { OnOk result (IsSplit tasks.old (grammar.of_stmt (stmts.Throw value.now)).forms (weight.of_stmt (stmts.Throw value.now)) tasks.new) }
+{
+    put(
+        tasks,
+        &[
+            Piece::Word(Reserved::Throw),
+            Piece::Expr(value),
+            Piece::Sign(Punctuator::Semicolon),
+        ],
+    )
+}
+
+/// Puts a `try` on the tasks.
+fn put_try<'a>(
+    tasks: &mut Stack<Piece<'a>>,
+    body: &'a Seq<Stmt>,
+    catch: &'a Option<Catch>,
+    finally: &'a Option<Seq<Stmt>>,
+) -> Result<(), NoMemory>
+    ensures { OnOk result (IsSplit tasks.old (grammar.of_stmt (stmts.Try body.now catch.now finally.now)).forms (weight.of_stmt (stmts.Try body.now catch.now finally.now)) tasks.new) }
+{
+    put(
+        tasks,
+        &[
+            Piece::Word(Reserved::Try),
+            Piece::Sign(Punctuator::OpenBrace),
+            Piece::Stmts(body.as_slice()),
+            Piece::Sign(Punctuator::CloseBrace),
+            Piece::Catch(catch),
+            Piece::Finally(finally),
+        ],
+    )
+}
+
 /// Puts the tokens and the parts of a statement on the tasks.
 pub(crate) fn split_stmt<'a>(tasks: &mut Stack<Piece<'a>>, stmt: &'a Stmt) -> Result<(), NoMemory>
     ensures { OnOk result (IsSplit tasks.old ((grammar.of_stmt stmt.now).forms) (weight.of_stmt stmt.now) tasks.new) }
 {
     match stmt {
-        Stmt::Declare(kind, declarations) => put(
-            tasks,
-            &[
-                Piece::Word(declare_word(*kind)),
-                Piece::Declarations(declarations.as_slice()),
-                Piece::Sign(Punctuator::Semicolon),
-            ],
-        ),
-        Stmt::DeclareFunction(name, function) => put(
-            tasks,
-            &[
-                Piece::Async(function.is_async),
-                Piece::Word(Reserved::Function),
-                Piece::Name(name),
-                Piece::Function(function),
-            ],
-        ),
-        Stmt::Block(stmts) => put(
-            tasks,
-            &[
-                Piece::Sign(Punctuator::OpenBrace),
-                Piece::Stmts(stmts.as_slice()),
-                Piece::Sign(Punctuator::CloseBrace),
-            ],
-        ),
-        Stmt::If(test, yes, no) => put(
-            tasks,
-            &[
-                Piece::Word(Reserved::If),
-                Piece::Sign(Punctuator::OpenParen),
-                Piece::Expr(test),
-                Piece::Sign(Punctuator::CloseParen),
-                Piece::Stmt(yes.get()),
-                Piece::Else(no),
-            ],
-        ),
+        Stmt::Declare(kind, declarations) => put_declare(tasks, *kind, declarations),
+        Stmt::DeclareFunction(name, function) => put_declare_function(tasks, name, function),
+        Stmt::Block(stmts) => put_block(tasks, stmts),
+        Stmt::If(test, yes, no) => put_if(tasks, test, yes, no),
         Stmt::For {
             begin,
             test,
             update,
             body,
-        } => put(
-            tasks,
-            &[
-                Piece::Word(Reserved::For),
-                Piece::Sign(Punctuator::OpenParen),
-                Piece::ForBegin(begin),
-                Piece::Sign(Punctuator::Semicolon),
-                Piece::OptionalExpr(test),
-                Piece::Sign(Punctuator::Semicolon),
-                Piece::OptionalExpr(update),
-                Piece::Sign(Punctuator::CloseParen),
-                Piece::Stmt(body.get()),
-            ],
-        ),
+        } => put_for(tasks, begin, test, update, body),
         Stmt::ForOf {
             kind,
             name,
             value,
             body,
-        } => put(
-            tasks,
-            &[
-                Piece::Word(Reserved::For),
-                Piece::Sign(Punctuator::OpenParen),
-                Piece::Word(declare_word(*kind)),
-                Piece::Name(name),
-                Piece::Plain(b"of"),
-                Piece::Expr(value),
-                Piece::Sign(Punctuator::CloseParen),
-                Piece::Stmt(body.get()),
-            ],
-        ),
-        Stmt::While(test, body) => put(
-            tasks,
-            &[
-                Piece::Word(Reserved::While),
-                Piece::Sign(Punctuator::OpenParen),
-                Piece::Expr(test),
-                Piece::Sign(Punctuator::CloseParen),
-                Piece::Stmt(body.get()),
-            ],
-        ),
+        } => put_for_of(tasks, *kind, name, value, body),
+        Stmt::While(test, body) => put_while(tasks, test, body),
         Stmt::Break(_) => put(
             tasks,
             &[
@@ -212,29 +327,12 @@ pub(crate) fn split_stmt<'a>(tasks: &mut Stack<Piece<'a>>, stmt: &'a Stmt) -> Re
                 Piece::Sign(Punctuator::Semicolon),
             ],
         ),
-        Stmt::Throw(value) => put(
-            tasks,
-            &[
-                Piece::Word(Reserved::Throw),
-                Piece::Expr(value),
-                Piece::Sign(Punctuator::Semicolon),
-            ],
-        ),
+        Stmt::Throw(value) => put_throw(tasks, value),
         Stmt::Try {
             body,
             catch,
             finally,
-        } => put(
-            tasks,
-            &[
-                Piece::Word(Reserved::Try),
-                Piece::Sign(Punctuator::OpenBrace),
-                Piece::Stmts(body.as_slice()),
-                Piece::Sign(Punctuator::CloseBrace),
-                Piece::Catch(catch),
-                Piece::Finally(finally),
-            ],
-        ),
+        } => put_try(tasks, body, catch, finally),
         Stmt::Empty => put(tasks, &[Piece::Sign(Punctuator::Semicolon)]),
         Stmt::Expr(expr) => put(
             tasks,
