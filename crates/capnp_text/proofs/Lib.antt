@@ -1,4 +1,3 @@
-pub mod Back
 pub mod Tokens
 pub mod Runs
 pub mod CharLemmas

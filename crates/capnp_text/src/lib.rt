@@ -6,7 +6,6 @@ mod lex;
 mod machine;
 mod reader;
 mod scan;
-mod stack;
 mod steps;
 #[cfg(test)]
 mod tests;

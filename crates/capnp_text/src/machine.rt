@@ -1,6 +1,5 @@
-use crate::stack::Stack;
 use crate::tree::{Decl, Field, Placed, Value};
-use wd_base::{NoMemory, Seq};
+use wd_base::{NoMemory, Seq, Stack};
 
 /// `const` name `:` type `=`
 #[derive(Debug, Drop)]

@@ -10,12 +10,11 @@ ghost use Rattle.capnp_text.specs.Machine as machine;
 use crate::lex::tokens_of;
 use crate::machine::{At, Refusal, State, StepEnd};
 use crate::scan::{Stop, Tokens};
-use crate::stack::Stack;
 use crate::steps::step;
 use crate::token::Token;
 use crate::tree::File;
 use std::alloc::Global;
-use wd_base::{NoMemory, Seq};
+use wd_base::{NoMemory, Seq, Stack};
 
 /// What a fault is.
 #[derive(Clone, Copy, Debug, PartialEq, Eq)]

@@ -5,11 +5,10 @@ ghost use Rattle.capnp_text.specs.Machine as spec;
 ghost use Rattle.capnp_text.specs.Steps.{Steps};
 
 use crate::machine::{At, Frame, Head, Refusal, Spot, State, StepEnd};
-use crate::stack::Stack;
 use crate::token::{Token, TokenKind};
 use crate::tree::{Decl, Field, Placed, Value};
 use std::alloc::Global;
-use wd_base::{Bytes, NoMemory, Seq};
+use wd_base::{Bytes, NoMemory, Seq, Stack};
 
 fn refuse(why: Refusal) -> Result<State, StepEnd>
     ensures { Steps (Err why) result }

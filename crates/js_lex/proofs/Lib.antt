@@ -1,5 +1,4 @@
 pub mod Whole
-pub mod Back
 pub mod UnitLemmas
 pub mod LetterLemmas
 pub mod ScanLemmas

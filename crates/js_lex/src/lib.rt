@@ -4,7 +4,6 @@
 mod front;
 mod letters;
 mod scan;
-mod stack;
 mod tables;
 #[cfg(test)]
 mod tests;

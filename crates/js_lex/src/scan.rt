@@ -5,10 +5,9 @@ ghost use Rattle.js_lex.specs.Grammar.{AreTokens};
 ghost use Rattle.js_lex.specs.Scan.{taken};
 
 use crate::front::{Front, Unread, front_of, more_units};
-use crate::stack::Stack;
 use crate::token::{Punctuator, ScriptFault, ScriptKind, TemplatePart, Token, TokenKind, Tokens};
 use std::alloc::Global;
-use wd_base::{NoMemory, Seq, Units};
+use wd_base::{NoMemory, Seq, Stack, Units};
 
 /// An open brace.
 #[derive(Clone, Copy, Debug)]

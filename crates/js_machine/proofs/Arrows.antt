@@ -41,7 +41,7 @@ use Rattle.js_machine.proofs.Operators.{tail_value, stands_whole}
 use Rattle.js_machine.proofs.Items.{last_forms, listed_is, more_is}
 use Rattle.js_machine.proofs.Groups.{cover_at, covered_name}
 use Rattle.js_machine.proofs.Literals.{async_units}
-use Rattle.js_machine.proofs.Equations.{written_arrow_expr, written_arrow_statements, written_arrow_value}
+use Rattle.js_grammar.proofs.Equations.{written_arrow_expr, written_arrow_statements, written_arrow_value}
 use Rattle.js_machine.proofs.ShapeEquations.{shape_arrow_expr, shape_arrow_statements, shape_arrow_value}
 
 -- ---- names in brackets

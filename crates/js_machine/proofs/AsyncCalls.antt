@@ -30,7 +30,7 @@ use Rattle.js_machine.proofs.Words.{both}
 use Rattle.js_machine.proofs.Chains.{joined_pieces, value_covered}
 use Rattle.js_machine.proofs.Items.{Each, exprs, forms_of, last_forms, listed_is, more_is, items_more, arguments, arguments_read, reads_call}
 use Rattle.js_machine.proofs.Groups.{cover_at, covered_name, begins_cover, BareName, bare_or_not, covered_acts}
-use Rattle.js_machine.proofs.Equations.{written_name, written_call}
+use Rattle.js_grammar.proofs.Equations.{written_name, written_call}
 use Rattle.js_machine.proofs.ShapeEquations.{shape_call}
 
 -- ---- calls of `async`

@@ -31,7 +31,7 @@ use Rattle.js_tree.specs.declared.tree.TemplateItem.{TemplateItem}
 use Rattle.js_grammar.specs.Marks.{Piece, Just, Mark, Form, mark, unbroken, one, just, sign, maybe, deeper_mark, deeper, first_unbroken, on_one_line, enclosed, more, separated, listed}
 use Rattle.js_grammar.specs.Grammar.{object, Written, WrittenFunction, WrittenPart, values, name, any_name, name_forms, key, reserved, reserved_at, async, perhaps_async, option_name, unary_form, binary_sign, update_sign, assign_sign, parameters, block, statements, accessed, template_mark, template_rest, arrow_parameters, arrow_sign, of_expr, of_target, of_property, of_function, of_arrow_body, of_template, of_stmt}
 use Rattle.js_machine.proofs.Pieces.{Spells, SpellsOne, Fits}
-use Rattle.js_machine.proofs.Equations.{written_name, written_number, written_text, written_true, written_false, written_null, written_this, written_template, written_array, written_object, written_function_expr, written_arrow_expr, written_group, written_unary, written_await, written_update, written_binary, written_conditional, written_assign, written_call, written_new, written_member, written_index, written_variable, written_field, written_item, written_pair, written_short, written_method, written_arrow_statements, written_arrow_value, written_function, written_part}
+use Rattle.js_grammar.proofs.Equations.{written_name, written_number, written_text, written_true, written_false, written_null, written_this, written_template, written_array, written_object, written_function_expr, written_arrow_expr, written_group, written_unary, written_await, written_update, written_binary, written_conditional, written_assign, written_call, written_new, written_member, written_index, written_variable, written_field, written_item, written_pair, written_short, written_method, written_arrow_statements, written_arrow_value, written_function, written_part}
 use Rattle.js_machine.proofs.Covers.{Covers}
 
 -- ---- without counts

@@ -16,7 +16,7 @@ use Rattle.js_tree.specs.declared.tree.Stmt.{Stmt, roll-Stmt, out-roll-Stmt}
 use Rattle.js_tree.specs.declared.tree.Stmt.TheVariants as stmt
 use Rattle.js_grammar.specs.Marks.{Form, just, end, deeper, on_one_line, separated}
 use Rattle.js_grammar.specs.Grammar.{WrittenStmt, StmtNode, name, reserved, reserved_at, perhaps_async, declare_word, parenthesized, block, body, option_value, option_else, option_finally, optional, for_head, for_of_head, of_word, is_empty, of_expr, of_stmt, of_declaration, of_for, of_catch}
-use Rattle.js_machine.proofs.Equations.{written_declare, written_declare_function, written_block, written_if, written_for, written_for_of, written_while, written_break, written_continue, written_return, written_throw, written_try, written_empty, written_expr_stmt, written_for_nothing, written_for_declarations, written_for_start, written_bare_catch, written_catch, written_bare_declaration, written_declaration}
+use Rattle.js_grammar.proofs.Equations.{written_declare, written_declare_function, written_block, written_if, written_for, written_for_of, written_while, written_break, written_continue, written_return, written_throw, written_try, written_empty, written_expr_stmt, written_for_nothing, written_for_declarations, written_for_start, written_bare_catch, written_catch, written_bare_declaration, written_declaration}
 use Rattle.js_machine.proofs.Bare.{bare, bare_append, bare_deeper, bare_separated, bare_on_one_line, bare_enclosed, block_bare, perhaps_function, expr_forms, stmt_forms, stmts_forms, braced, bracketed, function_forms}
 
 abbrev forms_of : WrittenStmt → List Form

@@ -30,7 +30,7 @@ use Rattle.js_machine.proofs.Readings.{token, token_of, is_proper, closes, kind_
 use Rattle.js_machine.proofs.Folding.{follows, behind_ends, tight}
 use Rattle.js_machine.proofs.FirstTokens.{Then, ThenAt, then_just, then_spelt_at, go}
 use Rattle.js_machine.proofs.Operands.{is_async_name, is_bare, Ready, Next, Stands, ReadsOperand, operand_at, waiting_at, level_small, stands_operand}
-use Rattle.js_machine.proofs.Equations.{written_member, written_index}
+use Rattle.js_grammar.proofs.Equations.{written_member, written_index}
 use Rattle.js_machine.proofs.ShapeEquations.{shape_member, shape_index}
 
 -- ---- whole values

@@ -28,7 +28,7 @@ use Rattle.js_tree.specs.declared.tree.Stmt.{Stmt}
 use Rattle.js_tree.specs.declared.tree.Target.{Target}
 use Rattle.js_tree.specs.declared.tree.Target.TheVariants as target
 use Rattle.js_tree.specs.declared.tree.TemplateItem.{TemplateItem}
-use Rattle.js_machine.proofs.Equations.{written_name, written_number, written_text, written_true, written_false, written_null, written_this, written_template, written_array, written_object, written_function_expr, written_arrow_expr, written_group, written_unary, written_await, written_update, written_binary, written_conditional, written_assign, written_call, written_new, written_member, written_index, written_variable, written_field, written_item, written_pair, written_short, written_method, written_arrow_statements, written_arrow_value, written_function, written_part}
+use Rattle.js_grammar.proofs.Equations.{written_name, written_number, written_text, written_true, written_false, written_null, written_this, written_template, written_array, written_object, written_function_expr, written_arrow_expr, written_group, written_unary, written_await, written_update, written_binary, written_conditional, written_assign, written_call, written_new, written_member, written_index, written_variable, written_field, written_item, written_pair, written_short, written_method, written_arrow_statements, written_arrow_value, written_function, written_part}
 
 -- ---- with more constructs open
 

@@ -15,7 +15,7 @@ use Rattle.js_tree.specs.declared.tree.Function.{Function}
 use Rattle.js_tree.specs.declared.tree.Stmt.{Stmt}
 use Rattle.js_tree.specs.declared.tree.Stmt.TheVariants as stmt
 use Rattle.js_grammar.specs.Grammar.{WrittenStmt, name, reserved, reserved_at, declare_word, parenthesized, block, body, option_value, option_finally, optional, for_head, for_of_head, of_word, of_expr, of_stmt, of_declaration, of_for, of_catch}
-use Rattle.js_machine.proofs.Equations.{written_declare, written_declare_function, written_block, written_if, written_for, written_for_of, written_while, written_break, written_continue, written_return, written_throw, written_try, written_empty, written_expr_stmt, written_for_nothing, written_for_declarations, written_for_start, written_bare_catch, written_catch, written_bare_declaration, written_declaration}
+use Rattle.js_grammar.proofs.Equations.{written_declare, written_declare_function, written_block, written_if, written_for, written_for_of, written_while, written_break, written_continue, written_return, written_throw, written_try, written_empty, written_expr_stmt, written_for_nothing, written_for_declarations, written_for_start, written_bare_catch, written_catch, written_bare_declaration, written_declaration}
 use Rattle.js_grammar.specs.Marks.{Form, just, end, deeper, on_one_line, separated}
 use Rattle.js_machine.proofs.CountedForms.{up, raised, raised_append, raised_deeper, raised_separated, raised_on_one_line, raised_enclosed, block_raised, perhaps_function, perhaps_at, separated_at, expr_at, stmt_at, stmts_at, braced_at, bracketed_at, function_at}
 

@@ -32,7 +32,7 @@ use Rattle.js_machine.specs.Statements.{declares, with_declaration, close_functi
 use Rattle.js_machine.specs.Tokens as tokens
 use Rattle.js_machine.specs.Values.{on_initial_end}
 use Rattle.js_machine.proofs.Pieces.{Fits, take}
-use Rattle.js_machine.proofs.Equations.{written_declare, written_declare_function, written_declaration, written_bare_declaration, written_for_declarations, written_function}
+use Rattle.js_grammar.proofs.Equations.{written_declare, written_declare_function, written_declaration, written_bare_declaration, written_for_declarations, written_function}
 use Rattle.js_machine.proofs.ShapeEquations.{shape_declare, shape_declare_function, shape_declaration, shape_bare_declaration, shape_for_declarations}
 use Rattle.js_machine.proofs.Readings.{token, token_of, kind_closes, closes, free, ReadsValue, ReadsFunction}
 use Rattle.js_machine.proofs.Reaches.{Goal, Leads, Reaches, did, leads_is, leads_piece, leads_run, take_token, take_end, reaches_none, reaches_same, reaches_is, reaches_then, reaches_either, reaches_each, reaches_token, reaches_at, reaches_just, TokenRead, token_read}

@@ -33,7 +33,7 @@ use Rattle.js_machine.proofs.Folding.{follows, behind, chained, operand_behind}
 use Rattle.js_machine.proofs.FirstTokens.{Then, ThenAt, then_just, then_at, go, first_on}
 use Rattle.js_machine.proofs.Operands.{Next, ReadsOperand, is_bare, name_node, operand_at, waiting_at, follows_small}
 use Rattle.js_machine.proofs.Chains.{joined_pieces, value_of, value_covered, value_waits}
-use Rattle.js_machine.proofs.Equations.{written_group, written_name}
+use Rattle.js_grammar.proofs.Equations.{written_group, written_name}
 use Rattle.js_machine.proofs.ShapeEquations.{shape_group}
 
 -- ---- behind a bracket that may begin parameters

@@ -32,7 +32,7 @@ use Rattle.js_machine.proofs.FirstTokens.{Then, ThenAt, then_just, then_at, then
 use Rattle.js_machine.proofs.Operands.{Stands, ReadsOperand, is_async_name, operand_at, stands_operand}
 use Rattle.js_machine.proofs.Words.{both}
 use Rattle.js_machine.proofs.Chains.{Operand, operand_fits, ready_left, next_token, joined_pieces, value_of}
-use Rattle.js_machine.proofs.Equations.{written_array, written_call, written_new}
+use Rattle.js_grammar.proofs.Equations.{written_array, written_call, written_new}
 use Rattle.js_machine.proofs.ShapeEquations.{shape_array, shape_call, shape_new}
 
 abbrev pub Each : Type 0

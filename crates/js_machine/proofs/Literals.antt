@@ -32,7 +32,7 @@ use Rattle.js_machine.proofs.FirstTokens.{Then, ThenAt, then_just, then_at, go, 
 use Rattle.js_machine.proofs.Operands.{ReadsOperand, operand_at, waiting_at, stands_operand, reads_token}
 use Rattle.js_machine.proofs.Words.{both}
 use Rattle.js_machine.proofs.Chains.{value_of, value_waits}
-use Rattle.js_machine.proofs.Equations.{written_template, written_object, written_function_expr, written_function, written_part}
+use Rattle.js_grammar.proofs.Equations.{written_template, written_object, written_function_expr, written_function, written_part}
 use Rattle.js_machine.proofs.ShapeEquations.{shape_template, shape_object, shape_function_expr, shape_part}
 
 -- ---- templates

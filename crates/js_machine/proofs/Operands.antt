@@ -26,7 +26,7 @@ use Rattle.js_machine.proofs.PieceLemmas.{run_step}
 use Rattle.js_machine.proofs.Readings.{token, token_of, is_proper, Place, admits, starts, ends_parameter, NameRead, Begins, FirstOn, take_proper}
 use Rattle.js_machine.proofs.Folding.{follows, behind, needs, chained, operand_behind, outermost_is, logic_in, logic_level}
 use Rattle.js_machine.proofs.FirstTokens.{Then, ThenAt, then_just, then_at, first_on}
-use Rattle.js_machine.proofs.Equations.{written_name, written_number, written_text, written_true, written_false, written_null, written_this}
+use Rattle.js_grammar.proofs.Equations.{written_name, written_number, written_text, written_true, written_false, written_null, written_this}
 
 -- ---- what is read
 

@@ -52,7 +52,7 @@ use Rattle.js_machine.proofs.FirstTokens.{Then, ThenAt, then_just, then_at, firs
 use Rattle.js_machine.proofs.Operands.{Next, Stands, ReadsOperand, waiting_at, follows_small, out_name, reads_name}
 use Rattle.js_machine.proofs.Words.{both}
 use Rattle.js_machine.proofs.Chains.{reads_member, reads_index, ready_left, next_token, joined_pieces, no_paren, value_of, value_waits}
-use Rattle.js_machine.proofs.Equations.{written_unary, written_await, written_update, written_assign, written_name, written_member, written_index, written_variable, written_field, written_item, written_binary, written_conditional}
+use Rattle.js_grammar.proofs.Equations.{written_unary, written_await, written_update, written_assign, written_name, written_member, written_index, written_variable, written_field, written_item, written_binary, written_conditional}
 use Rattle.js_machine.proofs.ShapeEquations.{shape_unary, shape_await, shape_update, shape_assign, shape_name, shape_member, shape_index, shape_variable, shape_field, shape_item, shape_binary, shape_conditional}
 
 -- ---- prefix operators

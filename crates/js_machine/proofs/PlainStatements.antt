@@ -20,7 +20,7 @@ use Rattle.js_machine.specs.declared.machine.Outer.{Outer}
 use Rattle.js_machine.specs.declared.machine.State.{State}
 use Rattle.js_machine.specs.Outer.{to, plus, constructs, in_body, complete}
 use Rattle.js_machine.specs.Statements.{block_constructs}
-use Rattle.js_machine.proofs.Equations.{written_break, written_continue, written_empty, written_block, written_try, written_catch, written_bare_catch}
+use Rattle.js_grammar.proofs.Equations.{written_break, written_continue, written_empty, written_block, written_try, written_catch, written_bare_catch}
 use Rattle.js_machine.proofs.ShapeEquations.{shape_block, shape_try, shape_catch}
 use Rattle.js_machine.proofs.Readings.{token}
 use Rattle.js_machine.proofs.Reaches.{Goal, Leads, Reaches, did, reaches_none, reaches_same, reaches_split, reaches_token, reaches_at, reaches_just, reaches_end, reaches_enclosed}

@@ -31,7 +31,7 @@ use Rattle.js_machine.specs.Tokens as tokens
 use Rattle.js_machine.specs.Values.{on_value}
 use Rattle.js_machine.proofs.Pieces.{Fits, is_last, take}
 use Rattle.js_machine.proofs.PieceLemmas.{take_is}
-use Rattle.js_machine.proofs.Equations.{written_pair, written_short, written_method, written_function}
+use Rattle.js_grammar.proofs.Equations.{written_pair, written_short, written_method, written_function}
 use Rattle.js_machine.proofs.ShapeEquations.{shape_pair, shape_method}
 use Rattle.js_machine.proofs.Words.{any_name_is, word_is_read}
 use Rattle.js_machine.proofs.Readings.{token, kind_closes, free, ReadsValue, ReadsFunction}

@@ -30,7 +30,7 @@ use Rattle.js_machine.proofs.Readings.{token, ReadsStmts, ReadsFunction, ReadsOb
 use Rattle.js_machine.proofs.Reaches.{Goal, Leads, Reaches, did, leads_is, leads_same, reaches_same, reaches_is, reaches_none, reaches_split, reaches_then, reaches_perhaps, reaches_maybe, reaches_just, reaches_at, reaches_enclosed, some_first, none_behind, First, first_one, Ran, ran, stops, goes, reaches_run, TokenRead, token_read}
 use Rattle.js_machine.proofs.ReadsStatements.{EndsProperty, ReadsProperty, Ends, Begins, ReadsStmt, begins_else}
 use Rattle.js_machine.proofs.Completes.{no_else_between, brace_settles}
-use Rattle.js_machine.proofs.Equations.{written_function}
+use Rattle.js_grammar.proofs.Equations.{written_function}
 use Rattle.js_machine.proofs.ShapeEquations.{shape_function}
 
 -- ---- statements between braces

@@ -11,7 +11,7 @@ use Rattle.js_tree.specs.declared.tree.UnaryOp.{UnaryOp}
 use Rattle.js_tree.specs.declared.tree.UpdateOp.{UpdateOp}
 use Rattle.js_tree.specs.declared.tree.UpdateSide.{UpdateSide}
 use Rattle.js_grammar.specs.Grammar.{Written}
-use Rattle.js_machine.proofs.Equations.{written_name, written_number, written_text, written_true, written_false, written_null, written_this, written_template, written_array, written_object, written_function_expr, written_group, written_unary, written_await, written_update, written_new, written_call, written_member, written_index}
+use Rattle.js_grammar.proofs.Equations.{written_name, written_number, written_text, written_true, written_false, written_null, written_this, written_template, written_array, written_object, written_function_expr, written_group, written_unary, written_await, written_update, written_new, written_call, written_member, written_index}
 use Rattle.std.specs.Prelude.{◌&&◌, nat_lt, nat_le}
 use Rattle.std.proofs.lemmas.Bool.{false≢true, ltb-true, ltb-false}
 use Rattle.js_lex.specs.declared.token.Punctuator.{Punctuator}

@@ -31,7 +31,7 @@ use Rattle.js_machine.specs.Outer.{Step, to, plus, constructs, push, opened, wai
 use Rattle.js_machine.specs.Statements.{declares}
 use Rattle.js_machine.specs.Values.{on_value}
 use Rattle.js_machine.proofs.Pieces.{is_last}
-use Rattle.js_machine.proofs.Equations.{written_if, written_for, written_for_nothing, written_for_start, written_for_of, written_while, written_return, written_throw, written_expr_stmt}
+use Rattle.js_grammar.proofs.Equations.{written_if, written_for, written_for_nothing, written_for_start, written_for_of, written_while, written_return, written_throw, written_expr_stmt}
 use Rattle.js_machine.proofs.ShapeEquations.{shape_if, shape_for, shape_for_start, shape_for_of, shape_while, shape_return, shape_throw, shape_expr_stmt}
 use Rattle.js_machine.proofs.Readings.{token, kind_closes, free, as_statement, on_line, ReadsValue}
 use Rattle.js_machine.proofs.Reaches.{Goal, Leads, Reaches, did, leads_is, reaches_none, reaches_same, reaches_split, reaches_then, reaches_deeper, reaches_token, reaches_at, reaches_just, reaches_end, reaches_enclosed, some_first, TokenRead, token_read}

@@ -8,3 +8,4 @@ pub mod Expressions
 pub mod Machine
 pub mod Told
 pub mod Answer
+pub mod Steps

@@ -1,10 +1,9 @@
-use crate::stack::Stack;
 use js_tree::{
     AssignOp, BinaryOp, Catch, Declaration, DeclareKind, Expr, ForBegin, Item, Key, Name, Property,
     Stmt, Target, TemplateItem, UnaryOp, UpdateOp,
 };
 use js_words::Spot;
-use wd_base::{NoMemory, Seq, Units};
+use wd_base::{NoMemory, Seq, Stack, Units};
 
 /// An operator that waits for its operand.
 #[derive(Drop)]

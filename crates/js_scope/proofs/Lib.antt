@@ -1,7 +1,5 @@
-mod Back
 mod NameLemmas
 mod Equations
-mod Weights
 mod Judge
 mod SplitLaws
 mod Splits

@@ -12,9 +12,9 @@ use Rattle.js_tree.specs.declared.tree.Stmt.{Stmt}
 use Rattle.js_tree.specs.declared.tree.TemplateItem.{TemplateItem}
 use Rattle.js_scope.specs.Early.{Marks, Declares, concat, declares, optional, of_declaration, of_expr, of_function, of_property, of_stmt, of_template}
 use Rattle.js_scope.specs.Verdict.{IsSplit}
-use Rattle.js_scope.specs.Weight as weight
+use Rattle.js_tree.specs.Weight as weight
 use Rattle.js_scope.proofs.Equations as eq
-use Rattle.js_scope.proofs.Weights as eqw
+use Rattle.js_tree.proofs.Weights as eqw
 use Rattle.js_scope.proofs.Splits.{Tasks, as_none, as_one, as_two}
 
 none : 1 ≤ 0 → ⊥

@@ -24,9 +24,9 @@ use Rattle.js_scope.specs.declared.task.Task.{Task}
 use Rattle.js_scope.specs.declared.task.Task.TheVariants as task
 use Rattle.js_scope.specs.Early.{Marks, concat, word, scope, named, declares, function_of, of_arrow, of_expr, of_function, of_property, of_stmt, of_target, of_template}
 use Rattle.js_scope.specs.Verdict.{inside, piece_marks, piece_weight, IsSplit}
-use Rattle.js_scope.specs.Weight as weight
+use Rattle.js_tree.specs.Weight as weight
 use Rattle.js_scope.proofs.Equations as eq
-use Rattle.js_scope.proofs.Weights as eqw
+use Rattle.js_tree.proofs.Weights as eqw
 use Rattle.js_scope.proofs.SplitLaws.{split_none, split_then, split_piece, split_inside, split_as}
 
 abbrev pub Tasks : Type 0

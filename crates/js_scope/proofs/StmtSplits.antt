@@ -15,9 +15,9 @@ use Rattle.js_scope.specs.declared.task.ScopeKind.TheVariants as how
 use Rattle.js_scope.specs.declared.task.Task.TheVariants as task
 use Rattle.js_scope.specs.Early.{Marks, Declares, word, concat, optional, named, scope, block, loop_body, finally_of, else_of, of_begin, of_catch, of_declaration, of_expr, of_function, of_stmt}
 use Rattle.js_scope.specs.Verdict.{IsSplit}
-use Rattle.js_scope.specs.Weight as weight
+use Rattle.js_tree.specs.Weight as weight
 use Rattle.js_scope.proofs.Equations as eq
-use Rattle.js_scope.proofs.Weights as eqw
+use Rattle.js_tree.proofs.Weights as eqw
 use Rattle.js_scope.proofs.SplitLaws.{split_then}
 use Rattle.js_scope.proofs.Splits.{Tasks, as_none, as_one, as_two, as_three, on_inside}
 

@@ -1,4 +1,3 @@
 pub mod Early
 pub mod Names
-pub mod Weight
 pub mod Verdict

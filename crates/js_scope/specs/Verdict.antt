@@ -16,7 +16,7 @@ use Rattle.js_scope.specs.declared.task.Task.{Task}
 use Rattle.js_scope.specs.declared.task.Task.TheVariants as task
 use Rattle.js_scope.specs.Early.{Mark, Marks, Declares, Unless, Faulty, fault, concat, declares, scope, loop_body, function, of_expr, of_property, of_stmt, of_declaration, of_template}
 use Rattle.js_scope.specs.Names.{has, with_name}
-use Rattle.js_scope.specs.Weight as weight
+use Rattle.js_tree.specs.Weight as weight
 
 -- ---- a scope as it stands
 

@@ -7,7 +7,6 @@ mod names;
 mod program;
 mod scope;
 mod split;
-mod stack;
 mod stmts;
 mod task;
 #[cfg(test)]

@@ -1,13 +1,12 @@
 ghost use Rattle.std.specs.Prelude.{map, option_map, OnOk};
 ghost use Rattle.js_scope.specs.Early as early;
-ghost use Rattle.js_scope.specs.Weight as weight;
+ghost use Rattle.js_tree.specs.Weight as weight;
 ghost use Rattle.js_scope.specs.Verdict.{IsSplit};
 
 use crate::split::{put, put_function};
-use crate::stack::Stack;
 use crate::task::{Piece, Task};
 use js_tree::{Declaration, Expr, Name, Property, Stmt, TemplateItem};
-use wd_base::NoMemory;
+use wd_base::{NoMemory, Stack};
 
 /// Puts the first name and the others on the tasks.
 #[tactic(auto, using(crate::proofs::ListSplits::lists))]

@@ -1,13 +1,12 @@
 ghost use Rattle.std.specs.Prelude.{◌+◌, [], ◌∷◌, ◌++◌, OnOk};
 ghost use Rattle.js_scope.specs.Early as early;
-ghost use Rattle.js_scope.specs.Weight as weight;
+ghost use Rattle.js_tree.specs.Weight as weight;
 ghost use Rattle.js_scope.specs.Verdict.{IsSplit, piece_marks, piece_weight};
 
 use crate::fault::{EarlyFault, EarlyKind};
-use crate::stack::Stack;
 use crate::task::{Piece, ScopeKind, Task};
 use js_tree::{ArrowBody, Expr, Function, Name, Target};
-use wd_base::NoMemory;
+use wd_base::{NoMemory, Stack};
 
 /// Puts a piece on the tasks.
 #[tactic(auto, using(crate::proofs::Splits::on_piece))]

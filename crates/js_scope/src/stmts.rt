@@ -1,16 +1,15 @@
 ghost use Rattle.std.specs.Prelude.{◌+◌, ◌∷◌, ◌++◌, map, option_map, OnOk};
 ghost use Rattle.js_scope.specs.Early as early;
-ghost use Rattle.js_scope.specs.Weight as weight;
+ghost use Rattle.js_tree.specs.Weight as weight;
 ghost use Rattle.js_scope.specs.Verdict.{IsSplit, inside};
 
 use crate::fault::EarlyKind;
 use crate::lists::put_optional;
 use crate::split::{put, put_function, put_word};
-use crate::stack::Stack;
 use crate::task::{Piece, ScopeKind, Task};
 use js_tree::{Catch, Expr, ForBegin, Name, Stmt};
 use sqlite_items::Boxed;
-use wd_base::{NoMemory, Seq};
+use wd_base::{NoMemory, Seq, Stack};
 
 /// Puts statements on the tasks that stand in a scope of their own.
 #[tactic(auto, using(crate::proofs::Splits::on_block))]

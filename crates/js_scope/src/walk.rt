@@ -1,6 +1,6 @@
 ghost use Rattle.std.specs.Prelude.{◌≡◌, ◌≤◌, ◌<◌, ◌+◌, [], ◌∷◌, map, OnOk};
 ghost use Rattle.js_scope.specs.Early as early;
-ghost use Rattle.js_scope.specs.Weight as weight;
+ghost use Rattle.js_tree.specs.Weight as weight;
 ghost use Rattle.js_scope.specs.Verdict.{IsSplit, Goes, Comes, answered, entered, judge, leave, piece_marks, piece_weight, settle, top_scope, total, verdict};
 
 use crate::fault::EarlyEnd;
@@ -9,12 +9,11 @@ use crate::lists::{
 };
 use crate::scope::Scope;
 use crate::split::{put, split_expr};
-use crate::stack::Stack;
 use crate::stmts::split_stmt;
 use crate::task::{Piece, ScopeKind, Task};
 use js_tree::Item;
 use std::alloc::Global;
-use wd_base::NoMemory;
+use wd_base::{NoMemory, Stack};
 
 /// A walk through a script: the scope in which it stands, those around it, and what it has to do.
 #[derive(Drop)]

@@ -1,4 +1,4 @@
-//! What every layer of the server names: identifiers, the list type, requests and replies, the
+//! What every layer of the server names: identifiers, the list type, a stack, requests and replies, the
 //! configuration's types, the I/O objects of a request, and conversions of text.
 #![tactic(auto)]
 
@@ -8,6 +8,7 @@ mod http;
 mod ids;
 mod objects;
 mod seq;
+mod stack;
 #[cfg(test)]
 mod tests;
 mod text;
@@ -24,4 +25,5 @@ pub use objects::{
     OpStarts, Origin, Wake,
 };
 pub use seq::Seq;
+pub use stack::Stack;
 pub use text::{bytes_of, decimal, units_of};

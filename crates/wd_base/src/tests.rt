@@ -1,7 +1,7 @@
 use crate::{
     Addr, BindValue, Binding, Bytes, Config, DiskDef, Form, IoObject, Ip4, JobNo, Kind, LinkNo,
     NetDef, NoMemory, Obj, ObjKind, Op, OpResult, OpStart, Origin, Range, RangeClass, Reply, Req,
-    ReqData, Same, Seq, Service, Socket, TryClone, Wake, Why, WorkerDef, bytes_of, decimal,
+    ReqData, Same, Seq, Service, Socket, Stack, TryClone, Wake, Why, WorkerDef, bytes_of, decimal,
     units_of,
 };
 use std::alloc::Global;
@@ -279,5 +279,25 @@ fn a_list_keeps_its_items(rt: HostRuntime) -> Result<(), Fail> {
     assert_eq!(rt; items.as_slice(), [9, 2, 3, 4].as_slice());
     assert!(rt; Seq::from_vec(items).same(&Seq::copy(rt.alloc(), &[9, 2, 3, 4])?));
     assert!(rt; Seq::<u64>::new(rt.alloc()).is_empty());
+    Ok(())
+}
+
+#[test]
+fn the_last_item_is_the_top(rt: HostRuntime) -> Result<(), Fail> {
+    let mut stack = Stack::new(rt.alloc());
+    assert!(rt; stack.is_empty());
+    for item in 1..4u32 {
+        stack.push(item)?;
+    }
+    stack = stack.with(4)?;
+    assert_eq!(rt; stack.len(), 4);
+    assert_eq!(rt; stack.top(), Some(&4));
+    for item in [4, 3, 2, 1] {
+        assert_eq!(rt; stack.pop(), Some(item));
+    }
+    assert!(rt; stack.is_empty());
+    assert_eq!(rt; stack.top(), None);
+    let mut stack = Stack::of_list(Seq::copy(rt.alloc(), &[1u32, 2])?);
+    assert_eq!(rt; stack.pop(), Some(1));
     Ok(())
 }

@@ -3,9 +3,10 @@ use Rattle.std.proofs.Common.{◌≡◌, List, Result, Ok, Err, refl, ap, subst,
 use Rattle.std.proofs.lemmas.List.Elements.{Contains-append_left, Contains-append_right}
 use Rattle.capnp_text.specs.declared.tree.Placed.{Placed}
 use Rattle.wd_config.specs.declared.faults.ConfigFault.{ConfigFault}
+use Rattle.wd_config.specs.declared.faults.Refusal.{Refusal}
 use Rattle.wd_config.specs.declared.faults.Stop.{Stop}
 use Rattle.wd_config.specs.declared.faults.Stop.TheVariants.{Refused as Refuse, Failed, NoMemory}
-use Rattle.wd_config.specs.Given.{Given, Gives, StopsAt}
+use Rattle.wd_config.specs.Given.{Given, Gives, StopsAt, config_fault}
 use Rattle.wd_config.specs.Reading.{Read, Answer, Found, Refused, Untold, ◌>>=◌, behind, then_read, given, Says, Comes}
 
 comes_behind : {A : Type 0} (ws : List Placed) (r : Read A) (y : Result A Stop) → Comes r y → Comes (behind ws r) y
@@ -37,7 +38,7 @@ found_stops ws z k (Failed w) (inr m) = inr (Contains-append_left ws (k z).embed
 found_stops ws z k NoMemory c = tt
 
 refused_stops : (A B : Type 0) (ws : List Placed) (f : ConfigFault) (e : Stop) → Comes {A = A} (record { embeds = ws; answer = Refused f }) (Err e) → Comes {A = B} (record { embeds = ws; answer = Refused f }) (Err e)
-refused_stops A B ws f (Refuse g) c = let e : f ≡ g = cc in ap Refused e
+refused_stops A B ws f (Refuse g) c = let e : f ≡ config_fault g = cc in ap Refused e
 refused_stops A B ws f (Failed w) (inl e) = cc
 refused_stops A B ws f (Failed w) (inr m) = inr m
 refused_stops A B ws f NoMemory c = tt
@@ -55,9 +56,9 @@ pub given_comes : {A : Type 0} (t : Given A) (x : A) → t ≡ Ok x → Comes (g
 given_comes (Ok z) x e = let f : z ≡ x = cc in ap Found f
 given_comes (Err f) x e = cc
 
-given_stops : {A : Type 0} (t : Given A) (f : ConfigFault) → t ≡ Err f → Comes (given t) (Err (Refuse f))
+given_stops : {A : Type 0} (t : Given A) (f : Refusal) → t ≡ Err f → Comes (given t) (Err (Refuse f))
 given_stops (Ok z) f e = cc
-given_stops (Err g) f e = let h : g ≡ f = cc in ap Refused h
+given_stops (Err g) f e = let h : g ≡ f = cc in ap (λ r. Refused (config_fault r)) h
 
 pub stops_comes : {A : Type 0} (t : Given A) (s : Stop) → StopsAt t s → Comes (given t) (Err s)
 stops_comes t (Refuse f) g = given_stops t f g

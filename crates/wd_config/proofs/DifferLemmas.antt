@@ -1,13 +1,13 @@
 -- Names that differ.
-use Rattle.std.proofs.Common.{◌≡◌, ℕ, ◌-◌, suc, ◌<◌, ◌≤◌, Bool, true, false, cond, List, [], ◌∷◌, length, drop, map, Some, None, is_some, refl, sym, ap, subst, ◌∙◌, arith, get_or, drop-cons}
+use Rattle.std.proofs.Common.{◌≡◌, ℕ, Bool, true, false, cond, List, [], ◌∷◌, ◌++◌, Some, None, is_some, refl, sym, ap, ◌∙◌}
 use Rattle.std.specs.List.{All}
 use Rattle.std.specs.Str.{bytes_eq}
 use Rattle.std.proofs.lemmas.Bool.Decides.{not_from_Decides}
-use Rattle.std.proofs.lemmas.List.Elements.{All-nil, All-cons}
+use Rattle.std.proofs.lemmas.List.Elements.{All-nil, All-push, All-head, All-tail}
 use Rattle.std.proofs.lemmas.Slice.Eq.{bytes_eq-Decides}
-use Rattle.wd_base.specs.declared.config.Service.{Service}
 use Rattle.wd_config.specs.Answer.{Differ}
 use Rattle.wd_config.specs.Names.{Names, put, number_of, has_name}
+use Rattle.wd_config.specs.Sound.{IsFree, Apart}
 
 new_name : (n q : List ℕ) (k : ℕ) (b : Bool) → bytes_eq q n ≡ b → is_some (cond b (Some k) None) ≡ false → bytes_eq q n ≡ false
 new_name n q k true t h = cc
@@ -33,40 +33,22 @@ has_put : (ps : Names) (n q : List ℕ) (k : ℕ) → has_name (put ps n k) q �
 has_put [] n q k h = (new_name n q k (bytes_eq q n) refl h, refl)
 has_put (p ∷ ps) n q k h = put_step p ps n q k (bytes_eq n p.0) refl (has_put ps n q k) h
 
--- these names differ, and each of them is taken
-pub record Apart (taken : Names) (names : List (List ℕ)) : Type 0 where
-  pub differ : Differ names
-  pub absent : (q : List ℕ) → has_name taken q ≡ false → All (λ m. m ≡ q → ⊥) names
+pub apart_none : Apart [] []
+apart_none = record { differ = tt; absent = λ q h. All-nil (λ m. m ≡ q → ⊥) }
 
-pub apart_none : (names : List (List ℕ)) → names ≡ [] → Apart [] names
-apart_none names e = subst (Apart []) (sym e) (record { differ = tt; absent = λ q h. All-nil (λ m. m ≡ q → ⊥) })
+-- one more name is taken, whatever has it
+pub apart_wider : (taken : Names) (names : List (List ℕ)) (n : List ℕ) (k : ℕ) → Apart taken names → Apart (put taken n k) names
+apart_wider taken names n k a = record { differ = a.differ; absent = λ q g. a.absent q (has_put taken n q k g).1 }
 
-pub apart_more : (taken : Names) (names : List (List ℕ)) (n : List ℕ) (k : ℕ) → Apart taken names → has_name taken n ≡ false → Apart (put taken n k) (n ∷ names)
+differ_push : (ms : List (List ℕ)) (n : List ℕ) → Differ ms → All (λ m. m ≡ n → ⊥) ms → Differ (ms ++ n ∷ [])
+differ_push [] n d h = (All-nil (λ m. m ≡ n → ⊥), tt)
+differ_push (m ∷ ms) n (a, d) h =
+    (All-push (λ l. l ≡ m → ⊥) ms n a (λ e. All-head (λ l. l ≡ n → ⊥) m ms h (sym e)), differ_push ms n d (All-tail (λ l. l ≡ n → ⊥) m ms h))
+
+-- a name that is free is taken behind the others
+pub apart_more : (taken : Names) (names : List (List ℕ)) (n : List ℕ) (k : ℕ) → Apart taken names → IsFree taken n → Apart (put taken n k) (names ++ n ∷ [])
 apart_more taken names n k a h = record {
-  differ = (a.absent n h, a.differ);
-  absent = λ q g. All-cons (λ m. m ≡ q → ⊥) n names
-      (λ e. not_from_Decides (bytes_eq q n) (bytes_eq-Decides q n) (has_put taken n q k g).0 (sym e))
-      (a.absent q (has_put taken n q k g).1);
+  differ = differ_push names n a.differ (a.absent n h);
+  absent = λ q g. All-push (λ m. m ≡ q → ⊥) names n (a.absent q (has_put taken n q k g).1)
+      (λ e. not_from_Decides (bytes_eq q n) (bytes_eq-Decides q n) (has_put taken n q k g).0 (sym e));
 }
-
-abbrev pub names_from : List Service → ℕ → List (List ℕ)
-names_from ss i = map (λ s. s.name) (drop i ss)
-
-from_here : (ss : List Service) (i : ℕ) (d : Service) → i < length ss → names_from ss i ≡ (get_or ss i d).name ∷ names_from ss (suc i)
-from_here ss i d h = ap (λ (xs : List Service). map (λ s. s.name) xs) (drop-cons ss i d h)
-
-pub none_left : (ss : List Service) → names_from ss (length ss) ≡ []
-none_left [] = refl
-none_left (s ∷ ss) = none_left ss
-
-pred : (n : ℕ) → 0 < n → suc (n - 1) ≡ n
-pred n h = omega arith
-
-pub one_more : (ss : List Service) (i : ℕ) (s : Service) (n : List ℕ) (taken : Names) (k : ℕ) → 0 < i → i ≤ length ss → n ≡ (get_or ss (i - 1) s).name → has_name taken n ≡ false
-    → Apart taken (names_from ss i) → Apart (put taken n k) (names_from ss (i - 1))
-one_more ss i s n taken k low high f h a =
-    let names : names_from ss (i - 1) ≡ n ∷ names_from ss i =
-    from_here ss (i - 1) s (omega arith)
-    ∙ ap (λ (m : List ℕ). m ∷ names_from ss (suc (i - 1))) (sym f)
-    ∙ ap (λ (j : ℕ). n ∷ names_from ss j) (pred i low) in
-    subst (Apart (put taken n k)) (sym names) (apart_more taken (names_from ss i) n k a h)

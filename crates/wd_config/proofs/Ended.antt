@@ -1,4 +1,5 @@
 -- What is answered is what the bytes mean.
+use Rattle.std.specs.Prelude.{IfOk}
 use Rattle.std.proofs.Common.{◌≡◌, ℕ, List, [], Option, Result, Ok, Err, refl, sym, ap, subst, ◌∙◌, inl, inr}
 use Rattle.wd_base.specs.declared.config.Config.{Config}
 use Rattle.wd_ports.specs.Told.{Stored}
@@ -11,11 +12,30 @@ use Rattle.wd_config.specs.declared.faults.ConfigKind.TheVariants as kind
 use Rattle.wd_config.specs.declared.faults.ConfigFault.{ConfigFault}
 use Rattle.wd_config.specs.declared.faults.ConfigEnd.{ConfigEnd}
 use Rattle.wd_config.specs.declared.faults.ConfigEnd.TheVariants.{Fault, NoMemory}
+use Rattle.wd_config.specs.declared.faults.RefusedKind.{RefusedKind}
+use Rattle.wd_config.specs.declared.faults.RefusedKind.TheVariants as refused
 use Rattle.wd_config.specs.declared.faults.Stop.{Stop}
 use Rattle.wd_config.specs.declared.faults.Stop.TheVariants as stop
+use Rattle.wd_config.specs.Given.{config_kind, config_fault}
 use Rattle.wd_config.specs.Reading.{Read, Found, Refused, Says, TellsFault, Tells, Comes, IsFailed, IsEmbedFault, refuse}
 use Rattle.wd_config.specs.Configured.{configured}
 use Rattle.wd_config.specs.Answer.{Answers, Answered, Ends}
+
+-- what is refused is no fault of an embed
+pub not_embed : (k : RefusedKind) → config_kind k ≡ kind.EmbedFault → ⊥
+unfolding config_kind
+not_embed refused.NoSuchConst e = cc
+not_embed refused.SeveralConfigs e = cc
+not_embed refused.ConstLoop e = cc
+not_embed refused.UnknownField e = cc
+not_embed refused.WrongKind e = cc
+not_embed refused.LeftOut e = cc
+not_embed refused.DoubleName e = cc
+not_embed refused.EmbedMissing e = cc
+not_embed refused.BadJson e = cc
+not_embed refused.BadAddress e = cc
+not_embed refused.BadRange e = cc
+not_embed refused.NoScript e = cc
 
 tells_fault : {A : Type 0} (r : Read A) (f : ConfigFault) (k : ConfigKind) → (k ≡ kind.EmbedFault → ⊥) → Says (Refused f) r.answer → TellsFault r f k
 tells_fault r f kind.EmbedFault n s = absurd (n refl)
@@ -29,7 +49,7 @@ told r y (Err NoMemory) c e = tt
 told r (Ok x) (Ok d) c e = subst (λ (v : Config). Says (Found v) r.answer) (sym e) c
 told r (Ok x) (Err (Fault g)) c e = absurd e
 told r (Err (stop.Refused f)) (Ok d) c e = absurd e
-told r (Err (stop.Refused f)) (Err (Fault g)) c e = subst (λ (v : ConfigFault). TellsFault r v v.kind) (sym e.0) (tells_fault r f f.kind e.1 c)
+told r (Err (stop.Refused f)) (Err (Fault g)) c e = subst (λ (v : ConfigFault). TellsFault r v v.kind) (sym e) (tells_fault r (config_fault f) (config_kind f.kind) (not_embed f.kind) c)
 told r (Err (stop.Failed w)) (Ok d) c e = absurd e
 told r (Err (stop.Failed w)) (Err (Fault g)) c e = subst (λ (v : ConfigFault). TellsFault r v v.kind) (sym e) c
 told r (Err stop.NoMemory) (Ok d) c e = cc
@@ -54,6 +74,14 @@ pub embed_failed : (y : Result Config Stop) (z : Result Config ConfigEnd) → En
 embed_failed y (Ok d) e f = absurd f
 embed_failed y (Err NoMemory) e f = absurd f
 embed_failed (Ok c) (Err (Fault g)) e f = absurd e
-embed_failed (Err (stop.Refused h)) (Err (Fault g)) e f = absurd (e.1 (ap (λ (v : ConfigFault). v.kind) (sym e.0) ∙ f))
+embed_failed (Err (stop.Refused h)) (Err (Fault g)) e f = absurd (not_embed h.kind (ap (λ (v : ConfigFault). v.kind) (sym e) ∙ f))
 embed_failed (Err (stop.Failed w)) (Err (Fault g)) e f = tt
 embed_failed (Err stop.NoMemory) (Err (Fault g)) e f = cc
+
+-- what holds of the configuration that was read holds of the one that is answered
+pub ended_ok : (P : Config → Type 0) (y : Result Config Stop) (z : Result Config ConfigEnd) → Ends y z → IfOk y P → IfOk z P
+ended_ok P (Ok c) (Ok d) e h = subst P (sym e) h
+ended_ok P (Err (stop.Refused f)) (Ok d) e h = absurd e
+ended_ok P (Err (stop.Failed w)) (Ok d) e h = absurd e
+ended_ok P (Err stop.NoMemory) (Ok d) e h = cc
+ended_ok P y (Err s) e h = tt

@@ -4,7 +4,7 @@ use Rattle.std.proofs.lemmas.List.{take-take}
 use Rattle.capnp_text.specs.declared.tree.Decl.{Decl}
 use Rattle.capnp_text.specs.declared.tree.Placed.{Placed}
 use Rattle.capnp_text.specs.declared.tree.Value.{Value}
-use Rattle.wd_config.specs.declared.faults.ConfigFault.{ConfigFault}
+use Rattle.wd_config.specs.declared.faults.Refusal.{Refusal}
 use Rattle.wd_config.specs.declared.faults.Stop.{Stop}
 use Rattle.wd_config.specs.declared.faults.Stop.TheVariants.{Refused, Failed, NoMemory}
 use Rattle.wd_config.specs.Given.{Given, StopsAt, ◌>>=◌}
@@ -26,7 +26,7 @@ pred n h = omega arith
 pub follow_more : (n : ℕ) (file : List Decl) (cs : Names) (o p : List ℕ) (v w : Value) (k : ℕ × Placed) → 0 < n → as_constant v ≡ Some k → opened file cs o k.0 k.1 ≡ Ok (p, w) → follow n file cs (o, v) ≡ follow (n - 1) file cs (p, w)
 follow_more n file cs o p v w k h e f = ap (λ (m : ℕ). follow m file cs (o, v)) (pred n h) ∙ follow_step (n - 1) file cs o v k (Ok (p, w)) e f
 
-pub follow_fault : (n : ℕ) (file : List Decl) (cs : Names) (o : List ℕ) (v : Value) (k : ℕ × Placed) (g : ConfigFault) → 0 < n → as_constant v ≡ Some k → opened file cs o k.0 k.1 ≡ Err g → follow n file cs (o, v) ≡ Err g
+pub follow_fault : (n : ℕ) (file : List Decl) (cs : Names) (o : List ℕ) (v : Value) (k : ℕ × Placed) (g : Refusal) → 0 < n → as_constant v ≡ Some k → opened file cs o k.0 k.1 ≡ Err g → follow n file cs (o, v) ≡ Err g
 follow_fault n file cs o v k g h e f = ap (λ (m : ℕ). follow m file cs (o, v)) (pred n h) ∙ follow_step (n - 1) file cs o v k (Err g) e f
 
 pub follow_stops : (n : ℕ) (file : List Decl) (cs : Names) (o : List ℕ) (v : Value) (k : ℕ × Placed) (s : Stop) → 0 < n → as_constant v ≡ Some k

@@ -16,3 +16,5 @@ pub mod DifferLemmas
 pub mod Follow
 pub mod ValueLaws
 pub mod ConfiguredLaws
+pub mod ToldLaws
+pub mod SoundLaws

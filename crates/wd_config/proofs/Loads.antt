@@ -4,10 +4,10 @@ use Rattle.std.specs.Prelude.{IfSome}
 use Rattle.std.specs.List.{Contains}
 use Rattle.capnp_text.specs.declared.tree.Placed.{Placed}
 use Rattle.wd_ports.specs.Told.{Stored, file_at}
-use Rattle.wd_config.specs.declared.faults.ConfigKind.TheVariants as kind
+use Rattle.wd_config.specs.declared.faults.RefusedKind.TheVariants as kind
 use Rattle.wd_config.specs.declared.faults.Stop.{Stop}
 use Rattle.wd_config.specs.declared.faults.Stop.TheVariants.{Refused as Refuse, Failed, NoMemory}
-use Rattle.wd_config.specs.Given.{Gives, fault}
+use Rattle.wd_config.specs.Given.{Gives, fault, config_fault}
 use Rattle.wd_config.specs.Reading.{Refused, Comes, IsStopAt}
 use Rattle.wd_config.specs.Values.{loaded, file_for}
 
@@ -21,7 +21,7 @@ loaded_found p w (Some s) path found bytes h e = subst (λ o. Comes (loaded p w 
 
 missing : (p : ℕ) (w : Placed) (y : Result Placed Stop) → Gives (fault kind.EmbedMissing w.place w.bytes) y → Comes (loaded p w (Some None)) y
 missing p w (Ok x) g = cc
-missing p w (Err (Refuse f)) g = let e : record { kind = kind.EmbedMissing; place = w.place; name = w.bytes } ≡ f = cc in ap Refused e
+missing p w (Err (Refuse f)) g = let e : record { kind = kind.EmbedMissing; place = w.place; name = w.bytes } ≡ f = cc in ap (λ r. Refused (config_fault r)) e
 missing p w (Err (Failed v)) g = absurd g
 missing p w (Err NoMemory) g = tt
 

@@ -8,11 +8,12 @@ use Rattle.capnp_text.specs.declared.reader.TextFault.{TextFault}
 use Rattle.capnp_text.specs.Fault.{IsText, IsFirstFault}
 use Rattle.wd_config.specs.declared.faults.ConfigKind.TheVariants as kind
 use Rattle.capnp_text.specs.declared.tree.Placed.{Placed}
-use Rattle.wd_config.specs.declared.faults.ConfigFault.{ConfigFault}
+use Rattle.wd_config.specs.declared.faults.Refusal.{Refusal}
 use Rattle.wd_config.specs.declared.faults.Stop.{Stop}
 use Rattle.wd_config.specs.declared.faults.Stop.TheVariants as stop
 use Rattle.wd_config.specs.declared.faults.ConfigEnd.{ConfigEnd}
 use Rattle.wd_config.specs.declared.faults.ConfigEnd.TheVariants.{Fault, NoMemory}
+use Rattle.wd_config.specs.Given.{config_fault}
 use Rattle.wd_config.specs.Reading.{Read, refuse, Tells}
 use Rattle.wd_config.specs.Configured.{configured}
 
@@ -46,10 +47,10 @@ EndsWith c (Ok d) = d ≡ c
 EndsWith c (Err (Fault f)) = ⊥
 EndsWith c (Err NoMemory) = Unit {0}
 
--- this fault is answered, unless memory ran out; it is none of an embed
-abbrev pub EndsAt : ConfigFault → Result Config ConfigEnd → Type 0
+-- this is refused, unless memory ran out
+abbrev pub EndsAt : Refusal → Result Config ConfigEnd → Type 0
 EndsAt f (Ok d) = ⊥
-EndsAt f (Err (Fault g)) = (g ≡ f) × (f.kind ≡ kind.EmbedFault → ⊥)
+EndsAt f (Err (Fault g)) = g ≡ config_fault f
 EndsAt f (Err NoMemory) = Unit {0}
 
 -- this embed's fault is answered, unless memory ran out

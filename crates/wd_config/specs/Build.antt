@@ -11,7 +11,7 @@ use Rattle.wd_base.specs.declared.config.Kind.{Kind}
 use Rattle.wd_base.specs.declared.config.Kind.TheVariants as what
 use Rattle.wd_base.specs.declared.config.Service.{Service}
 use Rattle.wd_base.specs.declared.config.Socket.{Socket}
-use Rattle.wd_config.specs.declared.faults.ConfigKind.TheVariants as kind
+use Rattle.wd_config.specs.declared.faults.RefusedKind.TheVariants as kind
 use Rattle.wd_config.specs.declared.items.Item.{Item}
 use Rattle.wd_config.specs.declared.items.Item.TheVariants as item
 use Rattle.wd_config.specs.declared.items.Entry.{Entry}

@@ -7,7 +7,7 @@ use Rattle.capnp_text.specs.declared.tree.Decl.{Decl}
 use Rattle.capnp_text.specs.declared.tree.Decl.TheVariants as decl
 use Rattle.capnp_text.specs.declared.tree.Placed.{Placed}
 use Rattle.capnp_text.specs.declared.tree.Value.{Value}
-use Rattle.wd_config.specs.declared.faults.ConfigKind.TheVariants as kind
+use Rattle.wd_config.specs.declared.faults.RefusedKind.TheVariants as kind
 use Rattle.wd_config.specs.declared.items.Item.{Item}
 use Rattle.wd_config.specs.declared.items.Item.TheVariants as item
 use Rattle.wd_config.specs.declared.schema.StructKind.TheVariants as struct

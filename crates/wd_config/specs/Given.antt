@@ -1,15 +1,37 @@
 -- What is read where no file is: a value, or why there is none.
 use Rattle.std.specs.Prelude.{◌≡◌, ℕ, List, Result, Ok, Err}
+use Rattle.wd_config.specs.declared.faults.RefusedKind.{RefusedKind}
+use Rattle.wd_config.specs.declared.faults.RefusedKind.TheVariants as refused
+use Rattle.wd_config.specs.declared.faults.Refusal.{Refusal}
 use Rattle.wd_config.specs.declared.faults.ConfigKind.{ConfigKind}
+use Rattle.wd_config.specs.declared.faults.ConfigKind.TheVariants as kind
 use Rattle.wd_config.specs.declared.faults.ConfigFault.{ConfigFault}
 use Rattle.wd_config.specs.declared.faults.Stop.{Stop}
 use Rattle.wd_config.specs.declared.faults.Stop.TheVariants.{Refused, Failed, NoMemory}
 
 abbrev pub Given : Type 0 → Type 0
-Given A = Result A ConfigFault
+Given A = Result A Refusal
 
-abbrev pub fault : {A : Type 0} → ConfigKind → ℕ → List ℕ → Given A
+abbrev pub fault : {A : Type 0} → RefusedKind → ℕ → List ℕ → Given A
 fault k p n = Err (record { kind = k; place = p; name = n })
+
+-- what the configuration's fault is called
+unfoldable pub config_kind : RefusedKind → ConfigKind
+config_kind refused.NoSuchConst = kind.NoSuchConst
+config_kind refused.SeveralConfigs = kind.SeveralConfigs
+config_kind refused.ConstLoop = kind.ConstLoop
+config_kind refused.UnknownField = kind.UnknownField
+config_kind refused.WrongKind = kind.WrongKind
+config_kind refused.LeftOut = kind.LeftOut
+config_kind refused.DoubleName = kind.DoubleName
+config_kind refused.EmbedMissing = kind.EmbedMissing
+config_kind refused.BadJson = kind.BadJson
+config_kind refused.BadAddress = kind.BadAddress
+config_kind refused.BadRange = kind.BadRange
+config_kind refused.NoScript = kind.NoScript
+
+abbrev pub config_fault : Refusal → ConfigFault
+config_fault r = record { kind = config_kind r.kind; place = r.place; name = r.name }
 
 infixl 10 ◌>>=◌
 abbrev pub ◌>>=◌ : {A B : Type 0} → Given A → (A → Given B) → Given B

@@ -13,4 +13,5 @@ pub mod Ranges
 pub mod Reading
 pub mod Schema
 pub mod Scope
+pub mod Sound
 pub mod Values

@@ -9,7 +9,7 @@ use Rattle.wd_config.specs.declared.faults.ConfigEnd.{ConfigEnd}
 use Rattle.wd_config.specs.declared.faults.ConfigEnd.TheVariants.{Fault, NoMemory}
 use Rattle.wd_config.specs.declared.faults.Stop.{Stop}
 use Rattle.wd_config.specs.declared.faults.Stop.TheVariants as stop
-use Rattle.wd_config.specs.Given.{Given}
+use Rattle.wd_config.specs.Given.{Given, config_fault}
 
 pub data Answer (A : Type 0) : Type 0 where
   Found : A → Answer A
@@ -48,7 +48,7 @@ r >>= k = then_read r.embeds r.answer k
 -- what is given where no file is read
 abbrev pub given : {A : Type 0} → Given A → Read A
 given (Ok x) = done x
-given (Err f) = record { embeds = []; answer = Refused f }
+given (Err f) = record { embeds = []; answer = Refused (config_fault f) }
 
 -- from left to right: a state, which each item changes
 abbrev pub along : {S X : Type 0} → (S → X → Read S) → S → List X → Read S
@@ -80,7 +80,7 @@ Tells r (Err NoMemory) = Unit {0}
 -- the same, of a reading that stops
 abbrev pub Comes : {A : Type 0} → Read A → Result A Stop → Type 0
 Comes r (Ok x) = Says (Found x) r.answer
-Comes r (Err (stop.Refused f)) = Says (Refused f) r.answer
+Comes r (Err (stop.Refused f)) = Says (Refused (config_fault f)) r.answer
 Comes r (Err (stop.Failed w)) = HasEmbed r w
 Comes r (Err stop.NoMemory) = Unit {0}
 

@@ -19,7 +19,7 @@ use Rattle.capnp_text.specs.declared.tree.Field.{Field}
 use Rattle.capnp_text.specs.declared.tree.Decl.{Decl}
 use Rattle.capnp_text.specs.declared.tree.Decl.TheVariants as decl
 use Rattle.js_json.specs.Machine.{accepts, start}
-use Rattle.wd_config.specs.declared.faults.ConfigKind.TheVariants as kind
+use Rattle.wd_config.specs.declared.faults.RefusedKind.TheVariants as kind
 use Rattle.wd_config.specs.declared.schema.Leaf.{Leaf}
 use Rattle.wd_config.specs.declared.schema.Leaf.TheVariants as leaf
 use Rattle.wd_config.specs.declared.schema.WordKind.{WordKind}
@@ -39,11 +39,11 @@ use Rattle.wd_config.specs.declared.items.Item.TheVariants as item
 use Rattle.wd_config.specs.declared.items.Entry.{Entry}
 use Rattle.wd_config.specs.declared.lists.Listed.{Listed}
 use Rattle.wd_config.specs.Build.{built}
-use Rattle.wd_config.specs.Given.{Given, fault, ◌>>=◌ as ◌>>=G◌}
+use Rattle.wd_config.specs.Given.{Given, fault, config_fault, ◌>>=◌ as ◌>>=G◌}
 use Rattle.wd_config.specs.Items.{has_slot}
 use Rattle.wd_config.specs.Leaves.{is_date, range, socket_address, external_address}
 use Rattle.wd_config.specs.Names.{Names, put, number_of, has_name}
-use Rattle.wd_config.specs.Reading.{Read, done, given, refuse, along, Found, Refused, Untold, ◌>>=◌}
+use Rattle.wd_config.specs.Reading.{Read, done, given, along, Found, Refused, Untold, ◌>>=◌}
 use Rattle.wd_config.specs.Schema.{rule_of}
 
 -- where values are read: the file and its constants, each with the place of its declaration; the folder; and the files, where
@@ -189,7 +189,7 @@ full_path folder path = if is_absolute path then path else folder ++ path
 
 abbrev pub loaded : ℕ → Placed → Option (Option (List ℕ)) → Read Placed
 loaded p w None = record { embeds = w ∷ []; answer = Untold }
-loaded p w (Some None) = record { embeds = w ∷ []; answer = Refused (record { kind = kind.EmbedMissing; place = w.place; name = w.bytes }) }
+loaded p w (Some None) = record { embeds = w ∷ []; answer = Refused (config_fault (record { kind = kind.EmbedMissing; place = w.place; name = w.bytes })) }
 loaded p w (Some (Some bytes)) = record { embeds = w ∷ []; answer = Found (record { place = p; bytes = bytes }) }
 
 -- the bytes, where they are UTF-8
@@ -340,7 +340,7 @@ is_left_out _ vs = false
 abbrev pub listed : Reader → Placed → ListKind → ℕ → Option (List Value) → Read Item
 listed read label k p None = given (wrong label p)
 listed read label k p (Some vs) =
-    if is_left_out k vs then refuse kind.LeftOut label.place label.bytes else
+    if is_left_out k vs then given (fault kind.LeftOut label.place label.bytes) else
     (along (item_step read label k) (record { items = empty_list k; taken = [] }) vs >>= λ made. done made.items)
 
 -- ---- structs
@@ -348,7 +348,7 @@ listed read label k p (Some vs) =
 abbrev pub entry : Slot → Item → Entry
 entry s i = record { slot = s; item = i }
 
-abbrev allowed_by : List Entry → Placed → Option Rule → Given (Slot × Shape)
+abbrev pub allowed_by : List Entry → Placed → Option Rule → Given (Slot × Shape)
 allowed_by es n None = fault kind.UnknownField n.place n.bytes
 allowed_by es n (Some LeftOut) = fault kind.LeftOut n.place n.bytes
 allowed_by es n (Some (Reads s x)) = if has_slot es s then fault kind.DoubleName n.place n.bytes else Ok (s, x)

@@ -2,7 +2,7 @@ ghost use Rattle.std.specs.Prelude.{◌≡◌, IfOk, codes, unwrap_or};
 ghost use Rattle.wd_config.specs.Build as spec;
 ghost use Rattle.wd_config.specs.Given.{Gives};
 
-use crate::faults::{ConfigKind, Stop, refuse};
+use crate::faults::{RefusedKind, Stop, refuse};
 use crate::items::{Entries, Item};
 use crate::schema::{Slot, StructKind};
 use std::alloc::Global;
@@ -113,7 +113,7 @@ pub fn needed<T: Drop>(
 {
     match found {
         Some(value) => Ok(value),
-        None => refuse(alloc, ConfigKind::WrongKind, place, name),
+        None => refuse(alloc, RefusedKind::WrongKind, place, name),
     }
 }
 
@@ -122,7 +122,7 @@ fn script(alloc: Global, place: usize, found: Option<(Form, Bytes)>) -> Result<(
 {
     match found {
         Some(script) => Ok(script),
-        None => refuse(alloc, ConfigKind::NoScript, place, b"Worker"),
+        None => refuse(alloc, RefusedKind::NoScript, place, b"Worker"),
     }
 }
 

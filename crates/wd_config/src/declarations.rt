@@ -3,7 +3,7 @@ ghost use Rattle.std.specs.Option.{option_copied, option_map};
 ghost use Rattle.wd_config.specs.Configured as spec;
 ghost use Rattle.wd_config.specs.Given.{Gives, GivesBy};
 
-use crate::faults::{ConfigKind, Stop, refuse};
+use crate::faults::{RefusedKind, Stop, refuse};
 use crate::names::Names;
 use capnp_text::{Decl, Placed, Value};
 use std::alloc::Global;
@@ -32,7 +32,7 @@ fn declare(alloc: Global, tables: &mut Tables, decl: &Decl, at: usize) -> Result
         Decl::Const { name, .. } => {
             let bytes = name.bytes.as_slice();
             if tables.constants.has(bytes) {
-                return refuse(alloc, ConfigKind::DoubleName, name.place, bytes);
+                return refuse(alloc, RefusedKind::DoubleName, name.place, bytes);
             }
             tables.constants.put(alloc, bytes, at)?;
             Ok(())
@@ -40,7 +40,7 @@ fn declare(alloc: Global, tables: &mut Tables, decl: &Decl, at: usize) -> Result
         Decl::Using { name, .. } => {
             let bytes = name.bytes.as_slice();
             if tables.aliases.has(bytes) {
-                return refuse(alloc, ConfigKind::DoubleName, name.place, bytes);
+                return refuse(alloc, RefusedKind::DoubleName, name.place, bytes);
             }
             tables.aliases.put(alloc, bytes, at)?;
             Ok(())
@@ -76,7 +76,7 @@ fn check_import(alloc: Global, decl: &Decl) -> Result<(), Stop>
             if path.bytes.as_slice() == b"/workerd/workerd.capnp".as_slice() {
                 return Ok(());
             }
-            refuse(alloc, ConfigKind::LeftOut, path.place, b"import")
+            refuse(alloc, RefusedKind::LeftOut, path.place, b"import")
         }
         Decl::Const { .. } | Decl::Id(_) => Ok(()),
     }
@@ -142,7 +142,7 @@ fn check_type(alloc: Global, aliases: &Names, decl: &Decl) -> Result<(), Stop>
             if is_type(aliases, parts) {
                 return Ok(());
             }
-            refuse(alloc, ConfigKind::LeftOut, type_place(parts), b"type")
+            refuse(alloc, RefusedKind::LeftOut, type_place(parts), b"type")
         }
         Decl::Using { .. } | Decl::Id(_) => Ok(()),
     }
@@ -205,12 +205,12 @@ fn sole(alloc: Global, file: &[Decl]) -> Result<Bytes, Stop>
     ensures { Gives (spec.sole (spec.first_config file.now)) result }
 {
     let Some((name, rest)) = first_config(file) else {
-        return refuse(alloc, ConfigKind::NoSuchConst, 0, b"");
+        return refuse(alloc, RefusedKind::NoSuchConst, 0, b"");
     };
     match first_config(rest) {
         Some((other, _rest)) => refuse(
             alloc,
-            ConfigKind::SeveralConfigs,
+            RefusedKind::SeveralConfigs,
             other.place,
             other.bytes.as_slice(),
         ),
@@ -238,7 +238,7 @@ pub fn root_named<'a>(
     ensures { GivesBy spec.root_of (spec.root constants.now file.now name.now) result }
 {
     let Some(at) = constants.number_of(name) else {
-        return refuse(alloc, ConfigKind::NoSuchConst, 0, name);
+        return refuse(alloc, RefusedKind::NoSuchConst, 0, name);
     };
     match file.get(at) {
         Some(
@@ -251,10 +251,10 @@ pub fn root_named<'a>(
             if is_config_type(type_.as_slice()) {
                 return Ok(Root { at, label, value });
             }
-            refuse(alloc, ConfigKind::NoSuchConst, 0, name)
+            refuse(alloc, RefusedKind::NoSuchConst, 0, name)
         }
         Some(Decl::Using { .. }) | Some(Decl::Id(_)) | None => {
-            refuse(alloc, ConfigKind::NoSuchConst, 0, name)
+            refuse(alloc, RefusedKind::NoSuchConst, 0, name)
         }
     }
 }

@@ -1,3 +1,5 @@
+ghost use Rattle.std.specs.Prelude.{◌≡◌};
+ghost use Rattle.wd_config.specs.Given as spec;
 ghost use Rattle.wd_config.specs.Given.{fault, Gives};
 
 use capnp_text::{Placed, TextKind};
@@ -64,11 +66,67 @@ impl From<NoMemory> for ConfigEnd {
     }
 }
 
+/// Why the file of a text is refused. The read of an embedded file that fails is none of these.
+#[derive(Clone, Copy, Debug, PartialEq, Eq)]
+pub enum RefusedKind {
+    NoSuchConst,
+    SeveralConfigs,
+    ConstLoop,
+    UnknownField,
+    WrongKind,
+    LeftOut,
+    DoubleName,
+    EmbedMissing,
+    BadJson,
+    BadAddress,
+    BadRange,
+    NoScript,
+}
+
+/// What is refused, with the place of the text's byte.
+#[derive(Debug, Drop)]
+pub struct Refusal {
+    pub kind: RefusedKind,
+    pub place: usize,
+    pub name: Bytes,
+}
+
+#[tactic(auto, unfolding(crate::specs::Given::config_kind))]
+fn config_kind(kind: RefusedKind) -> ConfigKind
+    ensures { result ≡ spec.config_kind kind }
+{
+    match kind {
+        RefusedKind::NoSuchConst => ConfigKind::NoSuchConst,
+        RefusedKind::SeveralConfigs => ConfigKind::SeveralConfigs,
+        RefusedKind::ConstLoop => ConfigKind::ConstLoop,
+        RefusedKind::UnknownField => ConfigKind::UnknownField,
+        RefusedKind::WrongKind => ConfigKind::WrongKind,
+        RefusedKind::LeftOut => ConfigKind::LeftOut,
+        RefusedKind::DoubleName => ConfigKind::DoubleName,
+        RefusedKind::EmbedMissing => ConfigKind::EmbedMissing,
+        RefusedKind::BadJson => ConfigKind::BadJson,
+        RefusedKind::BadAddress => ConfigKind::BadAddress,
+        RefusedKind::BadRange => ConfigKind::BadRange,
+        RefusedKind::NoScript => ConfigKind::NoScript,
+    }
+}
+
+/// The fault of a configuration that is refused so.
+pub fn config_fault(refusal: Refusal) -> ConfigFault
+    ensures { result ≡ spec.config_fault refusal }
+{
+    ConfigFault {
+        kind: config_kind(refusal.kind),
+        place: refusal.place,
+        name: refusal.name,
+    }
+}
+
 /// Why a reading stops.
 #[derive(Debug, Drop)]
 pub enum Stop {
     /// the configuration has a fault
-    Refused(ConfigFault),
+    Refused(Refusal),
     /// the read of an embedded file failed: the place of its path, and the path as written
     Failed(Placed),
     NoMemory,
@@ -88,12 +146,12 @@ impl From<NoMemory> for Stop {
 /// Stops at a fault that carries a copy of a name.
 pub fn refuse<T: Drop>(
     alloc: Global,
-    kind: ConfigKind,
+    kind: RefusedKind,
     place: usize,
     name: &[u8],
 ) -> Result<T, Stop>
     ensures { Gives (fault kind place name.now) result }
 {
     let name = Seq::copy(alloc, name)?;
-    Err(Stop::Refused(ConfigFault { kind, place, name }))
+    Err(Stop::Refused(Refusal { kind, place, name }))
 }

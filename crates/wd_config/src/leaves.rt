@@ -8,8 +8,10 @@ ghost use Rattle.wd_config.specs.Reading.{Comes, IsFailed, IsStopAt};
 ghost use Rattle.wd_config.specs.Leaves as leaves;
 ghost use Rattle.wd_config.specs.Values as spec;
 ghost use Rattle.wd_config.specs.Scope.{context};
+ghost use Rattle.wd_config.specs.Sound.{Sound};
+ghost use Rattle.wd_config.specs.declared.schema.Shape.TheVariants as shapes;
 
-use crate::faults::{ConfigKind, Stop, refuse};
+use crate::faults::{RefusedKind, Stop, refuse};
 use crate::items::Item;
 use crate::names::Names;
 use crate::schema::{Leaf, WordKind};
@@ -26,7 +28,7 @@ use wd_ports::{Failed, Files};
 pub fn wrong<T: Drop>(alloc: Global, label: &Placed, place: usize) -> Result<T, Stop>
     ensures { Gives (spec.wrong label.now place) result }
 {
-    refuse(alloc, ConfigKind::WrongKind, place, label.bytes.as_slice())
+    refuse(alloc, RefusedKind::WrongKind, place, label.bytes.as_slice())
 }
 
 fn flag(alloc: Global, label: &Placed, place: usize, word: Option<&Placed>) -> Result<Item, Stop>
@@ -55,7 +57,7 @@ fn style(alloc: Global, label: &Placed, place: usize, word: Option<&Placed>) -> 
     } else if word.bytes.as_slice() == b"proxy".as_slice() {
         refuse(
             alloc,
-            ConfigKind::LeftOut,
+            RefusedKind::LeftOut,
             label.place,
             label.bytes.as_slice(),
         )
@@ -115,7 +117,7 @@ fn load_file<F: Files>(
         Ok(Some(bytes)) => Ok(Placed { place, bytes }),
         Ok(None) => refuse(
             alloc,
-            ConfigKind::EmbedMissing,
+            RefusedKind::EmbedMissing,
             path.place,
             path.bytes.as_slice(),
         ),
@@ -200,7 +202,7 @@ fn json_item(alloc: Global, label: &Placed, place: usize, units: Units) -> Resul
     if is_json(&units) {
         Ok(Item::Value(BindValue::Json(units)))
     } else {
-        refuse(alloc, ConfigKind::BadJson, place, label.bytes.as_slice())
+        refuse(alloc, RefusedKind::BadJson, place, label.bytes.as_slice())
     }
 }
 
@@ -229,7 +231,12 @@ fn address_item(
 {
     match found {
         Some(address) => Ok(Item::Address(address)),
-        None => refuse(alloc, ConfigKind::BadAddress, place, label.bytes.as_slice()),
+        None => refuse(
+            alloc,
+            RefusedKind::BadAddress,
+            place,
+            label.bytes.as_slice(),
+        ),
     }
 }
 
@@ -243,7 +250,7 @@ fn range_item(
 {
     match found {
         Some(range) => Ok(Item::Range(range)),
-        None => refuse(alloc, ConfigKind::BadRange, place, label.bytes.as_slice()),
+        None => refuse(alloc, RefusedKind::BadRange, place, label.bytes.as_slice()),
     }
 }
 
@@ -254,7 +261,7 @@ fn name_item(alloc: Global, taken: &Names, text: Placed) -> Result<Item, Stop>
     if taken.has(text.bytes.as_slice()) {
         refuse(
             alloc,
-            ConfigKind::DoubleName,
+            RefusedKind::DoubleName,
             text.place,
             text.bytes.as_slice(),
         )
@@ -382,6 +389,7 @@ pub fn leaf_item<F: Files>(
     value: &Value,
 ) -> Result<Item, Stop>
     ensures reads { Comes (spec.leaf_item (context scope.now (F.told files.old)) taken.now label.now leaf value.now) result }
+    ensures sound { IfOk result (Sound taken.now (shapes.Leaf leaf)) }
     ensures tells { F.told files.new ≡ F.told files.old }
     ensures later { part ReadFile (F.faults files.old) ≤ part ReadFile (F.faults files.new) }
     ensures fault { IsFailed result → RoseIn ReadFile (F.faults files.old) (F.faults files.new) }

@@ -3,7 +3,7 @@ ghost use Rattle.std.specs.Option.{option_copied};
 ghost use Rattle.wd_config.specs.Given.{GivesBy};
 ghost use Rattle.wd_config.specs.Values as spec;
 
-use crate::faults::{ConfigKind, Stop, refuse};
+use crate::faults::{RefusedKind, Stop, refuse};
 use crate::open::Open;
 use crate::scope::Scope;
 use crate::tree::as_constant;
@@ -36,13 +36,13 @@ fn opened<'a>(
 {
     let bytes = name.bytes.as_slice();
     let Some(at) = scope.constants.number_of(bytes) else {
-        return refuse(alloc, ConfigKind::NoSuchConst, place, bytes);
+        return refuse(alloc, RefusedKind::NoSuchConst, place, bytes);
     };
     if active.has(at) {
-        return refuse(alloc, ConfigKind::ConstLoop, place, bytes);
+        return refuse(alloc, RefusedKind::ConstLoop, place, bytes);
     }
     let Some(value) = value_at(scope.file, at) else {
-        return refuse(alloc, ConfigKind::NoSuchConst, place, bytes);
+        return refuse(alloc, RefusedKind::NoSuchConst, place, bytes);
     };
     active.open(at)?;
     Ok(value)

@@ -1,7 +1,7 @@
-ghost use Rattle.std.specs.Prelude.{◌≡◌, ◌↔◌, [], ◌<◌, ◌≤◌, ◌^◌, length, map, IfOk, IsTrue};
+ghost use Rattle.std.specs.Prelude.{◌≡◌, [], ◌<◌, ◌≤◌, ◌^◌, length, map, IfOk};
 ghost use Rattle.std.specs.Option.{option_map};
 ghost use Rattle.wd_base.specs.declared.config.Config.{Config as ConfigIs};
-ghost use Rattle.wd_config.specs.Answer.{Answered, Differ, Ends, EndsWith, EndsAt};
+ghost use Rattle.wd_config.specs.Answer.{Answered, Differ, Ends, EndsWith};
 ghost use Rattle.wd_config.specs.Configured as spec;
 ghost use Rattle.wd_config.specs.Given.{Gives};
 ghost use Rattle.wd_config.specs.Reading.{IsEmbedFault, Comes, IsFailed};
@@ -10,7 +10,7 @@ ghost use Rattle.wd_ports.specs.Faults.{part, RoseIn, ReadFile};
 
 use crate::build::needed;
 use crate::declarations::{Root, check_imports, check_types, chosen, declared, root_named};
-use crate::faults::{ConfigEnd, ConfigFault, ConfigKind, Stop};
+use crate::faults::{ConfigEnd, ConfigFault, ConfigKind, Stop, config_fault};
 use crate::items::Item;
 use crate::names::Names;
 use crate::open::Open;
@@ -19,7 +19,7 @@ use crate::scope::Scope;
 use crate::values::value_item;
 use capnp_text::{Decl, ParseEnd, TextFault, parse};
 use std::alloc::Global;
-use wd_base::{Config, NoMemory, Seq, Service};
+use wd_base::{Config, Seq};
 use wd_ports::Files;
 
 /// How many values may stand in one another: a configuration, its services, one of these, its
@@ -49,6 +49,7 @@ fn rooted_config<F: Files>(
     root: &Root<'_>,
 ) -> Result<Config, Stop>
     ensures reads { Comes (spec.rooted_config (context scope.now (F.told files.old)) (spec.root_of root.now)) result }
+    ensures differ { IfOk result (λ c. Differ (map (λ s. s.name) c.services)) }
     ensures tells { F.told files.new ≡ F.told files.old }
     ensures later { part ReadFile (F.faults files.old) ≤ part ReadFile (F.faults files.new) }
     ensures fault { IsFailed result → RoseIn ReadFile (F.faults files.old) (F.faults files.new) }
@@ -80,6 +81,7 @@ fn configured<F: Files>(
     files: &mut F,
 ) -> Result<Config, Stop>
     ensures reads { Comes (spec.configured (option_map (λ s. s.now) const_name.entry) folder.now (F.told files.old).files file.now) result }
+    ensures differ { IfOk result (λ c. Differ (map (λ s. s.name) c.services)) }
     ensures tells { F.told files.new ≡ F.told files.old }
     ensures later { part ReadFile (F.faults files.old) ≤ part ReadFile (F.faults files.new) }
     ensures fault { IsFailed result → RoseIn ReadFile (F.faults files.old) (F.faults files.new) }
@@ -95,23 +97,6 @@ fn configured<F: Files>(
         folder,
     };
     rooted_config(alloc, &scope, files, &root)
-}
-
-/// Whether no two services have one name.
-fn differ(alloc: Global, services: &[Service]) -> Result<bool, NoMemory>
-    ensures { IfOk result (λ b. IsTrue b → Differ (map (λ s. s.name) services.now)) }
-{
-    let mut taken = Names::new(alloc);
-    let mut left = services.len();
-    while left > 0 {
-        left -= 1;
-        let name = services[left].name.as_slice();
-        if taken.has(name) {
-            return Ok(false);
-        }
-        taken.put(alloc, name, 0)?;
-    }
-    Ok(true)
 }
 
 /// The first fault of a text.
@@ -149,23 +134,22 @@ pub fn read<F: Files>(
     match parse(alloc, bytes) {
         Ok(file) => {
             let found = configured(alloc, file.as_slice(), const_name, folder, files);
-            ended(alloc, found)
+            ended(found)
         }
         Err(ParseEnd::Fault(fault)) => Err(ConfigEnd::Fault(text_fault(alloc, fault))),
         Err(ParseEnd::NoMemory) => Err(ConfigEnd::NoMemory),
     }
 }
 
-/// What is answered to what was read. The services of a configuration that is read differ in their
-/// names and are fewer than 2 ^ 31, since no text has room for more.
-fn ended(alloc: Global, found: Result<Config, Stop>) -> Result<Config, ConfigEnd>
+/// What is answered to what was read. Its services are fewer than 2 ^ 31, since no text has room
+/// for more.
+fn ended(found: Result<Config, Stop>) -> Result<Config, ConfigEnd>
     ensures ends { Ends found result }
-    ensures differ { IfOk result (λ c. Differ (map (λ s. s.name) c.services)) }
     ensures few { IfOk result (λ c. length c.services < 2 ^ 31) }
 {
     match found {
-        Ok(config) => whole(alloc, config),
-        Err(Stop::Refused(fault)) => refused(fault),
+        Ok(config) => whole(config),
+        Err(Stop::Refused(refusal)) => Err(ConfigEnd::Fault(config_fault(refusal))),
         Err(Stop::Failed(path)) => Err(ConfigEnd::Fault(ConfigFault {
             kind: ConfigKind::EmbedFault,
             place: path.place,
@@ -175,35 +159,12 @@ fn ended(alloc: Global, found: Result<Config, Stop>) -> Result<Config, ConfigEnd
     }
 }
 
-fn whole(alloc: Global, config: Config) -> Result<Config, ConfigEnd>
+fn whole(config: Config) -> Result<Config, ConfigEnd>
     ensures same { EndsWith config result }
-    ensures differ { IfOk result (λ c. Differ (map (λ s. s.name) c.services)) }
     ensures few { IfOk result (λ c. length c.services < 2 ^ 31) }
 {
     if config.services.len() >= 2147483648 {
         return Err(ConfigEnd::NoMemory);
     }
-    match differ(alloc, config.services.as_slice()) {
-        Ok(true) => Ok(config),
-        Ok(false) | Err(NoMemory) => Err(ConfigEnd::NoMemory),
-    }
-}
-
-/// A fault that was found in the text. None is called a fault of an embed.
-fn refused(fault: ConfigFault) -> Result<Config, ConfigEnd>
-    ensures { EndsAt fault result }
-{
-    if is_embed_fault(fault.kind) {
-        return Err(ConfigEnd::NoMemory);
-    }
-    Err(ConfigEnd::Fault(fault))
-}
-
-fn is_embed_fault(kind: ConfigKind) -> bool
-    ensures { IsTrue result ↔ (kind ≡ ConfigKind.EmbedFault) }
-{
-    match kind {
-        ConfigKind::EmbedFault => true,
-        _other => false,
-    }
+    Ok(config)
 }

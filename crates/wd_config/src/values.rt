@@ -4,10 +4,13 @@ ghost use Rattle.wd_ports.specs.Faults.{part, RoseIn, ReadFile};
 ghost use Rattle.wd_config.specs.Given.{Gives};
 ghost use Rattle.wd_config.specs.Reading.{Comes, IsFailed};
 ghost use Rattle.wd_config.specs.Scope.{context};
+ghost use Rattle.wd_config.specs.Sound.{Sound, SoundFields, SoundItems};
+ghost use Rattle.wd_config.specs.Names.{Names as TakenNames};
+ghost use Rattle.wd_config.specs.declared.schema.Shape.TheVariants as shapes;
 ghost use Rattle.wd_config.specs.Values as spec;
 
 use crate::build;
-use crate::faults::{ConfigKind, Stop, refuse};
+use crate::faults::{RefusedKind, Stop, refuse};
 use crate::items::{Entries, Item};
 use crate::leaves::{leaf_item, word_item, wrong};
 use crate::lists::{Listed, empty_list, is_left_out, item_shape, take_name, with_item};
@@ -34,11 +37,11 @@ fn allowed(
 {
     let bytes = name.bytes.as_slice();
     match rule_of(kind, bytes) {
-        None => refuse(alloc, ConfigKind::UnknownField, name.place, bytes),
-        Some(Rule::LeftOut) => refuse(alloc, ConfigKind::LeftOut, name.place, bytes),
+        None => refuse(alloc, RefusedKind::UnknownField, name.place, bytes),
+        Some(Rule::LeftOut) => refuse(alloc, RefusedKind::LeftOut, name.place, bytes),
         Some(Rule::Read(slot, shape)) => {
             if entries.has(slot) {
-                return refuse(alloc, ConfigKind::DoubleName, name.place, bytes);
+                return refuse(alloc, RefusedKind::DoubleName, name.place, bytes);
             }
             Ok((slot, shape))
         }
@@ -125,7 +128,7 @@ fn bare_field<F: Files>(
 }
 
 /// A struct of which a bare text stands for one field.
-#[tactic(auto, using(crate::proofs::Comes::gives_comes))]
+#[tactic(auto, using(crate::proofs::Comes::gives_comes, crate::proofs::SoundLaws::bare_sound))]
 fn bared<F: Files>(
     alloc: Global,
     scope: &Scope<'_>,
@@ -136,6 +139,7 @@ fn bared<F: Files>(
     value: &Value,
 ) -> Result<Item, Stop>
     ensures reads { Comes (spec.bared (context scope.now (F.told files.old)) taken.now label.now kind value.now (spec.bare kind)) result }
+    ensures sound { IfOk result (Sound taken.now (shapes.Struct kind)) }
     ensures tells { F.told files.new ≡ F.told files.old }
     ensures later { part ReadFile (F.faults files.old) ≤ part ReadFile (F.faults files.new) }
     ensures fault { IsFailed result → RoseIn ReadFile (F.faults files.old) (F.faults files.new) }
@@ -163,6 +167,7 @@ pub fn value_item<'a, F: Files>(
     value: &'a Value,
 ) -> Result<Item, Stop>
     ensures reads { Comes (spec.value_item levels (context scope.now (F.told files.old)) active.old taken.now label.now shape value.now) result }
+    ensures sound { IfOk result (Sound taken.now shape) }
     ensures same { OnOk result (active.new ≡ active.old) }
     ensures tells { F.told files.new ≡ F.told files.old }
     ensures later { part ReadFile (F.faults files.old) ≤ part ReadFile (F.faults files.new) }
@@ -190,7 +195,7 @@ pub fn value_item<'a, F: Files>(
 
 /// A value that is no `.name`.
 #[cycle(value)]
-#[tactic(auto, using(crate::proofs::Comes::gives_comes))]
+#[tactic(auto, using(crate::proofs::Comes::gives_comes, crate::proofs::SoundLaws::word_sound))]
 fn shaped<'a, F: Files>(
     levels: usize,
     alloc: Global,
@@ -203,6 +208,7 @@ fn shaped<'a, F: Files>(
     value: &'a Value,
 ) -> Result<Item, Stop>
     ensures reads { Comes (spec.shaped (spec.value_item levels (context scope.now (F.told files.old)) active.old) (context scope.now (F.told files.old)) taken.now label.now shape value.now) result }
+    ensures sound { IfOk result (Sound taken.now shape) }
     ensures same { OnOk result (active.new ≡ active.old) }
     ensures tells { F.told files.new ≡ F.told files.old }
     ensures later { part ReadFile (F.faults files.old) ≤ part ReadFile (F.faults files.new) }
@@ -234,6 +240,7 @@ fn item<'a, F: Files>(
     value: &'a Value,
 ) -> Result<Listed, Stop>
     ensures reads { Comes (spec.item_step (spec.value_item levels (context scope.now (F.told files.old)) active.old) label.now kind list value.now) result }
+    ensures sound { SoundItems kind list → IfOk result (SoundItems kind) }
     ensures same { OnOk result (active.new ≡ active.old) }
     ensures tells { F.told files.new ≡ F.told files.old }
     ensures later { part ReadFile (F.faults files.old) ≤ part ReadFile (F.faults files.new) }
@@ -257,7 +264,7 @@ fn item<'a, F: Files>(
 
 /// A list, item by item.
 #[cycle(value)]
-#[tactic(auto, using(crate::proofs::Comes::gives_comes))]
+#[tactic(auto, using(crate::proofs::Comes::gives_comes, crate::proofs::SoundLaws::items_none))]
 fn listed<'a, F: Files>(
     levels: usize,
     alloc: Global,
@@ -269,6 +276,7 @@ fn listed<'a, F: Files>(
     value: &'a Value,
 ) -> Result<Item, Stop>
     ensures reads { Comes (spec.listed (spec.value_item levels (context scope.now (F.told files.old)) active.old) label.now kind (spec.place_of value.now) (spec.as_list value.now)) result }
+    ensures sound { (taken : TakenNames) → IfOk result (Sound taken (shapes.List kind)) }
     ensures same { OnOk result (active.new ≡ active.old) }
     ensures tells { F.told files.new ≡ F.told files.old }
     ensures later { part ReadFile (F.faults files.old) ≤ part ReadFile (F.faults files.new) }
@@ -280,7 +288,7 @@ fn listed<'a, F: Files>(
     if is_left_out(kind, values) {
         return refuse(
             alloc,
-            ConfigKind::LeftOut,
+            RefusedKind::LeftOut,
             label.place,
             label.bytes.as_slice(),
         );
@@ -310,6 +318,7 @@ fn field<'a, F: Files>(
     field: &'a Field,
 ) -> Result<Entries, Stop>
     ensures reads { Comes (spec.field_step (spec.value_item levels (context scope.now (F.told files.old)) active.old) taken.now kind entries field.now) result }
+    ensures sound { SoundFields taken.now kind entries → IfOk result (SoundFields taken.now kind) }
     ensures same { OnOk result (active.new ≡ active.old) }
     ensures tells { F.told files.new ≡ F.told files.old }
     ensures later { part ReadFile (F.faults files.old) ≤ part ReadFile (F.faults files.new) }
@@ -333,6 +342,7 @@ fn field<'a, F: Files>(
 
 /// A struct, field by field, or the text that stands for it.
 #[cycle(value)]
+#[tactic(auto, using(crate::proofs::SoundLaws::fields_none))]
 fn structured<'a, F: Files>(
     levels: usize,
     alloc: Global,
@@ -345,6 +355,7 @@ fn structured<'a, F: Files>(
     value: &'a Value,
 ) -> Result<Item, Stop>
     ensures reads { Comes (spec.structured (spec.value_item levels (context scope.now (F.told files.old)) active.old) (context scope.now (F.told files.old)) taken.now label.now kind value.now (spec.as_struct value.now)) result }
+    ensures sound { IfOk result (Sound taken.now (shapes.Struct kind)) }
     ensures same { OnOk result (active.new ≡ active.old) }
     ensures tells { F.told files.new ≡ F.told files.old }
     ensures later { part ReadFile (F.faults files.old) ≤ part ReadFile (F.faults files.new) }

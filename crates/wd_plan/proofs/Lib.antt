@@ -1,5 +1,4 @@
 pub mod ScriptSteps
 pub mod FolderSteps
-pub mod ToldLaws
 pub mod PlanLaws
 pub mod StartSteps

@@ -14,7 +14,7 @@ use Rattle.wd_config.specs.declared.faults.ConfigKind.TheVariants as kind
 use Rattle.wd_config.specs.Answer.{Answered, Answers, Differ}
 use Rattle.wd_config.specs.Reading.{Answer, Found, Refused, Untold, IsEmbedFault, Read, Says, Tells, TellsFault}
 use Rattle.wd_config.proofs.OneAnswer.{one_answer}
-use Rattle.wd_plan.proofs.ToldLaws.{answer_told}
+use Rattle.wd_config.proofs.ToldLaws.{answer_told}
 use Rattle.wd_graph.specs.Links.{first_unknown, linked}
 use Rattle.wd_graph.specs.Names.{names_differ as differ_test, has_name, same_name}
 use Rattle.wd_graph.proofs.Numbers.{one_name}

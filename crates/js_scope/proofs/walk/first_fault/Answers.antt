@@ -1,6 +1,6 @@
 use Rattle.std.proofs.Common.{map}
 use Rattle.js_scope.specs.Early.{concat, of_item}
-use Rattle.js_scope.specs.Weight as weight
+use Rattle.js_tree.specs.Weight as weight
 use Rattle.js_scope.proofs.WalkLaws.{first_of_walk}
 use Rattle.js_scope.proofs.walk.first_fault.Goals as goal
 

@@ -1,7 +1,7 @@
 use Rattle.std.proofs.Common.{◌≡◌, ◌-◌, ◌<◌, ◌+◌, ◌∷◌, ◌++◌, suc, map, length, drop, drop-cons, refl, sym, ap, ◌∙◌, subst, arith}
 use Rattle.js_scope.specs.Early.{concat, of_item}
 use Rattle.js_scope.specs.Verdict.{IsSplit}
-use Rattle.js_scope.specs.Weight as weight
+use Rattle.js_tree.specs.Weight as weight
 use Rattle.js_scope.proofs.SplitLaws.{split_as, split_then}
 use Rattle.js_scope.proofs.walk.put_items.Goals as goal
 

@@ -1,7 +1,7 @@
 use Rattle.std.proofs.Common.{map, ◌≤◌, length, drop}
 use Rattle.js_scope.specs.Early.{concat, of_item}
 use Rattle.js_scope.specs.Verdict.{IsSplit}
-use Rattle.js_scope.specs.Weight as weight
+use Rattle.js_tree.specs.Weight as weight
 use Rattle.js_scope.proofs.walk.put_items.Given as goal
 
 -- the items from `left` on stand on the tasks

@@ -1,5 +1,5 @@
 use Rattle.std.proofs.Common.{subst}
-use Rattle.wd_config.specs.declared.faults.ConfigKind.TheVariants as kind
+use Rattle.wd_config.specs.declared.faults.RefusedKind.TheVariants as kind
 use Rattle.wd_config.specs.Given.{Gives, fault}
 use Rattle.wd_config.proofs.Loads.{loaded_found, loaded_missing, loaded_failed}
 use Rattle.wd_config.proofs.leaves.load_file.Goals as goal

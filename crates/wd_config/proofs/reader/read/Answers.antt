@@ -7,7 +7,7 @@ use Rattle.wd_config.specs.declared.faults.ConfigEnd.TheVariants.{Fault}
 use Rattle.wd_config.specs.Answer.{Answered}
 use Rattle.wd_config.specs.Configured.{configured}
 use Rattle.wd_config.specs.Reading.{Comes}
-use Rattle.wd_config.proofs.Ended.{answered_file, answered_fault}
+use Rattle.wd_config.proofs.Ended.{answered_file, answered_fault, embed_failed, ended_ok}
 use Rattle.wd_config.proofs.reader.read.Goals as goal
 
 pub returns-in-Ok-clause-reads : goal.returns-in-Ok-clause-reads
@@ -24,3 +24,9 @@ returns-in-Err-Fault-clause-reads g c =
     subst (λ (f : ConfigFault). Answered c.args.bytes.now name c.args.folder.now files (Err (Fault f))) (sym c.text_fault.ensures)
     (answered_fault c.args.bytes.now name c.args.folder.now files c.in-Err-Fault.fault
     (subst (λ (e : ParseEnd). IfFault (Err e) (λ f. IsFirstFault f c.args.bytes.now)) c.in-Err-Fault.field-0-is c.in-Err-Fault.ensures.first))
+
+pub returns-in-Ok-clause-differ : goal.returns-in-Ok-clause-differ
+returns-in-Ok-clause-differ g c = ended_ok _ c.configured-found.result c.ended.result c.ended.ensures.ends c.configured-found.ensures.differ
+
+pub returns-in-Ok-clause-fault : goal.returns-in-Ok-clause-fault
+returns-in-Ok-clause-fault g c = λ e. c.configured-found.ensures.fault (embed_failed c.configured-found.result c.ended.result c.ended.ensures.ends e)

@@ -3,6 +3,7 @@ use Rattle.std.proofs.lemmas.Result.{err_from_is_err_and}
 use Rattle.wd_config.specs.Scope.{context}
 use Rattle.wd_config.specs.Configured.{root_of}
 use Rattle.wd_config.proofs.ConfiguredLaws.{rooted_stops, rooted_comes}
+use Rattle.wd_config.proofs.SoundLaws.{config_sound}
 use Rattle.wd_config.proofs.reader.rooted_config.Goals as goal
 
 pub returns-in_err-item-clause-reads : goal.returns-in_err-item-clause-reads
@@ -12,3 +13,6 @@ returns-in_err-item-clause-reads g c = let p = err_from_is_err_and c.from_residu
 pub returns-clause-reads : goal.returns-clause-reads
 returns-clause-reads g c =
     rooted_comes (context c.args.scope.now (g.F.Files.told c.args.files.now)) (root_of c.args.root.now) c.open.new.self c.new-taken.result c.in_ok-item.item c.config_in.result (c.in_ok-open.ensures ∙ ap (λ (o : List ℕ). o ++ c.args.root.now.at ∷ []) c.new-active.ensures) c.new-taken.ensures c.in_ok-item.ensures.reads c.config_in.ensures
+
+pub returns-clause-differ : goal.returns-clause-differ
+returns-clause-differ g c = config_sound c.new-taken.result c.in_ok-item.item c.config_in.result c.in_ok-item.ensures.sound c.config_in.ensures

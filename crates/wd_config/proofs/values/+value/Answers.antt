@@ -1,11 +1,13 @@
-use Rattle.std.proofs.Common.{◌≡◌, Ok, Err, refl, subst, ◌∙◌, arith}
+use Rattle.std.proofs.Common.{◌≡◌, Ok, Err, refl, sym, subst, ◌∙◌, arith}
 use Rattle.std.proofs.lemmas.Result.{err_from_is_err_and}
 use Rattle.wd_config.specs.Build.{built}
 use Rattle.wd_config.specs.Reading.{Comes, done, given}
 use Rattle.wd_config.specs.Scope.{context}
+use Rattle.wd_config.specs.Sound.{Sound, SoundFields, SoundItems}
 use Rattle.wd_config.specs.Values.{Reader, value_item, listed, structured, place_of, as_list, as_struct, item_step, field_step}
 use Rattle.wd_config.proofs.Comes.{gives_comes}
 use Rattle.wd_config.proofs.Along.{loop_end, loop_stops, loop_more}
+use Rattle.wd_config.proofs.SoundLaws.{built_sound, fields_more, fields_none, items_more, items_none, items_sound}
 use Rattle.wd_config.proofs.ValueLaws.{value_comes, value_stops, field_refused, field_stops, field_reads, item_stops, item_reads, moved}
 use Rattle.wd_config.proofs.values.+value.Goals as goal
 
@@ -26,6 +28,11 @@ field-returns-clause-reads g t c =
     let read = value_item c.args.levels (context c.args.scope.now (g.F.Files.told c.args.files.now)) c.args.active.now in
     field_reads read c.args.taken.now c.args.kind c.args.entries c.args.field.now (c.in_ok-slot.slot, c.in_ok-slot.shape) c.in_ok-item.item c.in_ok-more.more c.in_ok-slot.ensures c.in_ok-item.ensures.reads c.in_ok-more.ensures
 
+pub field-returns-clause-sound : goal.field-returns-clause-sound
+field-returns-clause-sound g t c = λ h.
+    subst (SoundFields c.args.taken.now c.args.kind) (sym c.in_ok-more.ensures)
+    (fields_more c.args.taken.now c.args.kind c.args.entries c.args.field.now.name c.in_ok-slot.slot c.in_ok-slot.shape c.in_ok-item.item c.in_ok-slot.ensures c.in_ok-item.ensures.sound h)
+
 pub item-returns-in_err-item-clause-reads : goal.item-returns-in_err-item-clause-reads
 item-returns-in_err-item-clause-reads g t c =
     let read = value_item c.args.levels (context c.args.scope.now (g.F.Files.told c.args.files.now)) c.args.active.now in
@@ -36,6 +43,11 @@ pub item-returns-clause-reads : goal.item-returns-clause-reads
 item-returns-clause-reads g t c =
     let read = value_item c.args.levels (context c.args.scope.now (g.F.Files.told c.args.files.now)) c.args.active.now in
     item_reads read c.args.label.now c.args.kind c.args.list c.args.value.now c.item_shape-shape.result c.in_ok-item.item c.in_ok-more.more c.item_shape-shape.ensures c.in_ok-item.ensures.reads c.in_ok-more.ensures
+
+pub item-returns-clause-sound : goal.item-returns-clause-sound
+item-returns-clause-sound g t c = λ h.
+    subst (SoundItems c.args.kind) (sym c.in_ok-more.ensures)
+    (items_more c.args.kind c.args.list c.in_ok-item.item (subst (λ x. Sound c.args.list.taken x c.in_ok-item.item) c.item_shape-shape.ensures c.in_ok-item.ensures.sound) h)
 
 pub listed-returns-in_err-list-clause-reads : goal.listed-returns-in_err-list-clause-reads
 listed-returns-in_err-list-clause-reads g t c =
@@ -57,7 +69,11 @@ listed-loop-first-preserved g t c =
       later = omega (arith, c.in_ok-list.ensures.later, c.loop-first.invariant.later);
       leads = loop_more (item_step read c.args.label.now c.args.kind) c.loop-first.list c.in_ok-list.list c.loop-first.rest.now c.in-Some-split_first.first.now c.in-Some-split_first.more.now (λ made. done made.items) (listed read c.args.label.now c.args.kind (place_of c.args.value.now) (as_list c.args.value.now))
           c.loop-first.invariant.leads c.in-Some-split_first.ensures.cases.0 (subst (λ (r : Reader). Comes (item_step r c.args.label.now c.args.kind c.loop-first.list c.in-Some-split_first.first.now) (Ok c.in_ok-list.list)) same c.in_ok-list.ensures.reads);
+      sound = c.in_ok-list.ensures.sound c.loop-first.invariant.sound;
     }
+
+pub listed-returns-clause-sound : goal.listed-returns-clause-sound
+listed-returns-clause-sound g t c = λ taken. items_sound taken c.args.kind c.loop-first.list c.loop-first.invariant.sound
 
 pub listed-returns-clause-reads : goal.listed-returns-clause-reads
 listed-returns-clause-reads g t c =
@@ -84,12 +100,16 @@ structured-loop-first-preserved g t c =
       later = omega (arith, c.in_ok-entries.ensures.later, c.loop-first.invariant.later);
       leads = loop_more (field_step read c.args.taken.now c.args.kind) c.loop-first.entries c.in_ok-entries.entries c.loop-first.rest.now c.in-Some-split_first.first.now c.in-Some-split_first.more.now (λ es. given (built c.args.kind c.in-Some.place es)) (structured read (context c.args.scope.now (g.F.Files.told c.args.files.now)) c.args.taken.now c.args.label.now c.args.kind c.args.value.now (as_struct c.args.value.now))
           c.loop-first.invariant.leads c.in-Some-split_first.ensures.cases.0 (subst (λ (r : Reader). Comes (field_step r c.args.taken.now c.args.kind c.loop-first.entries c.in-Some-split_first.first.now) (Ok c.in_ok-entries.entries)) same c.in_ok-entries.ensures.reads);
+      sound = c.in_ok-entries.ensures.sound c.loop-first.invariant.sound;
     }
 
 pub structured-returns-clause-reads : goal.structured-returns-clause-reads
 structured-returns-clause-reads g t c =
     let read = value_item c.args.levels (context c.args.scope.now (g.F.Files.told c.args.files.now)) c.args.active.now in
     loop_end (field_step read c.args.taken.now c.args.kind) c.loop-first.entries c.loop-first.rest.now (λ es. given (built c.args.kind c.in-Some.place es)) (structured read (context c.args.scope.now (g.F.Files.told c.args.files.now)) c.args.taken.now c.args.label.now c.args.kind c.args.value.now (as_struct c.args.value.now)) c.built.result c.loop-first.invariant.leads c.in_default-split_first.ensures.cases (gives_comes (built c.args.kind c.in-Some.place c.loop-first.entries) c.built.result c.built.ensures)
+
+pub structured-returns-clause-sound : goal.structured-returns-clause-sound
+structured-returns-clause-sound g t c = built_sound c.args.taken.now c.args.kind c.in-Some.place c.loop-first.entries c.built.result c.loop-first.invariant.sound c.built.ensures
 
 pub value_item-returns-in_err-value-clause-reads : goal.value_item-returns-in_err-value-clause-reads
 value_item-returns-in_err-value-clause-reads g t c =

@@ -1,0 +1,227 @@
+-- The front of a text that begins with a reserved word or a punctuator, and a space.
+use Rattle.std.proofs.Common.{◌≡◌, ◌≤◌, ◌-◌, Bool, ◌∷◌, ◌++◌, length, refl, ap, arith}
+use Rattle.js_lex.specs.declared.token.TokenKind.TheVariants as tok
+use Rattle.js_lex.specs.declared.token.Reserved.{Reserved}
+use Rattle.js_lex.specs.declared.token.Reserved.TheVariants as r
+use Rattle.js_lex.specs.declared.token.Punctuator.{Punctuator}
+use Rattle.js_lex.specs.declared.token.Punctuator.TheVariants as p
+use Rattle.js_lex.specs.declared.front.Front.TheVariants as front
+use Rattle.js_lex.specs.Units.{Text}
+use Rattle.js_lex.proofs.Fronts.{front_at}
+use Rattle.js_print.specs.TokenText.{word_text, sign_text}
+use Rattle.js_print.proofs.Printable.{MayStand}
+
+pub word_front : (h : Bool) (x : Reserved) (z : Text) → front_at h (word_text x ++ 32 ∷ z) ≡ front.Token (tok.Reserved x) (length (word_text x) - 1)
+word_front h r.Await z = refl
+word_front h r.Break z = refl
+word_front h r.Case z = refl
+word_front h r.Catch z = refl
+word_front h r.Class z = refl
+word_front h r.Const z = refl
+word_front h r.Continue z = refl
+word_front h r.Debugger z = refl
+word_front h r.Default z = refl
+word_front h r.Delete z = refl
+word_front h r.Do z = refl
+word_front h r.Else z = refl
+word_front h r.Enum z = refl
+word_front h r.Export z = refl
+word_front h r.Extends z = refl
+word_front h r.False z = refl
+word_front h r.Finally z = refl
+word_front h r.For z = refl
+word_front h r.Function z = refl
+word_front h r.If z = refl
+word_front h r.Implements z = refl
+word_front h r.Import z = refl
+word_front h r.In z = refl
+word_front h r.InstanceOf z = refl
+word_front h r.Interface z = refl
+word_front h r.Let z = refl
+word_front h r.New z = refl
+word_front h r.Null z = refl
+word_front h r.Package z = refl
+word_front h r.Private z = refl
+word_front h r.Protected z = refl
+word_front h r.Public z = refl
+word_front h r.Return z = refl
+word_front h r.Static z = refl
+word_front h r.Super z = refl
+word_front h r.Switch z = refl
+word_front h r.This z = refl
+word_front h r.Throw z = refl
+word_front h r.True z = refl
+word_front h r.Try z = refl
+word_front h r.TypeOf z = refl
+word_front h r.Var z = refl
+word_front h r.Void z = refl
+word_front h r.While z = refl
+word_front h r.With z = refl
+word_front h r.Yield z = refl
+
+pub sign_front : (h : Bool) (x : Punctuator) (z : Text) → MayStand h (tok.Punctuator x) → front_at h (sign_text x ++ 32 ∷ z) ≡ front.Token (tok.Punctuator x) (length (sign_text x) - 1)
+sign_front h p.OpenBrace z s = refl
+sign_front h p.CloseBrace z s = ap (λ (b : Bool). front_at b (sign_text p.CloseBrace ++ 32 ∷ z)) s
+sign_front h p.OpenParen z s = refl
+sign_front h p.CloseParen z s = refl
+sign_front h p.OpenBracket z s = refl
+sign_front h p.CloseBracket z s = refl
+sign_front h p.Dot z s = refl
+sign_front h p.Ellipsis z s = refl
+sign_front h p.Semicolon z s = refl
+sign_front h p.Comma z s = refl
+sign_front h p.Less z s = refl
+sign_front h p.Greater z s = refl
+sign_front h p.LessEqual z s = refl
+sign_front h p.GreaterEqual z s = refl
+sign_front h p.EqualEqual z s = refl
+sign_front h p.NotEqual z s = refl
+sign_front h p.Identical z s = refl
+sign_front h p.NotIdentical z s = refl
+sign_front h p.Plus z s = refl
+sign_front h p.Minus z s = refl
+sign_front h p.Star z s = refl
+sign_front h p.Slash z s = refl
+sign_front h p.Percent z s = refl
+sign_front h p.StarStar z s = refl
+sign_front h p.PlusPlus z s = refl
+sign_front h p.MinusMinus z s = refl
+sign_front h p.ShiftLeft z s = refl
+sign_front h p.ShiftRight z s = refl
+sign_front h p.ShiftRightUnsigned z s = refl
+sign_front h p.Ampersand z s = refl
+sign_front h p.Bar z s = refl
+sign_front h p.Caret z s = refl
+sign_front h p.Not z s = refl
+sign_front h p.Tilde z s = refl
+sign_front h p.AndAnd z s = refl
+sign_front h p.OrOr z s = refl
+sign_front h p.QuestionQuestion z s = refl
+sign_front h p.Question z s = refl
+sign_front h p.QuestionDot z s = refl
+sign_front h p.Colon z s = refl
+sign_front h p.Equal z s = refl
+sign_front h p.PlusEqual z s = refl
+sign_front h p.MinusEqual z s = refl
+sign_front h p.StarEqual z s = refl
+sign_front h p.SlashEqual z s = refl
+sign_front h p.PercentEqual z s = refl
+sign_front h p.StarStarEqual z s = refl
+sign_front h p.ShiftLeftEqual z s = refl
+sign_front h p.ShiftRightEqual z s = refl
+sign_front h p.ShiftRightUnsignedEqual z s = refl
+sign_front h p.AmpersandEqual z s = refl
+sign_front h p.BarEqual z s = refl
+sign_front h p.CaretEqual z s = refl
+sign_front h p.AndAndEqual z s = refl
+sign_front h p.OrOrEqual z s = refl
+sign_front h p.QuestionQuestionEqual z s = refl
+sign_front h p.Arrow z s = refl
+
+-- no text is empty
+pub word_some : (x : Reserved) → 1 ≤ length (word_text x)
+word_some r.Await = omega arith
+word_some r.Break = omega arith
+word_some r.Case = omega arith
+word_some r.Catch = omega arith
+word_some r.Class = omega arith
+word_some r.Const = omega arith
+word_some r.Continue = omega arith
+word_some r.Debugger = omega arith
+word_some r.Default = omega arith
+word_some r.Delete = omega arith
+word_some r.Do = omega arith
+word_some r.Else = omega arith
+word_some r.Enum = omega arith
+word_some r.Export = omega arith
+word_some r.Extends = omega arith
+word_some r.False = omega arith
+word_some r.Finally = omega arith
+word_some r.For = omega arith
+word_some r.Function = omega arith
+word_some r.If = omega arith
+word_some r.Implements = omega arith
+word_some r.Import = omega arith
+word_some r.In = omega arith
+word_some r.InstanceOf = omega arith
+word_some r.Interface = omega arith
+word_some r.Let = omega arith
+word_some r.New = omega arith
+word_some r.Null = omega arith
+word_some r.Package = omega arith
+word_some r.Private = omega arith
+word_some r.Protected = omega arith
+word_some r.Public = omega arith
+word_some r.Return = omega arith
+word_some r.Static = omega arith
+word_some r.Super = omega arith
+word_some r.Switch = omega arith
+word_some r.This = omega arith
+word_some r.Throw = omega arith
+word_some r.True = omega arith
+word_some r.Try = omega arith
+word_some r.TypeOf = omega arith
+word_some r.Var = omega arith
+word_some r.Void = omega arith
+word_some r.While = omega arith
+word_some r.With = omega arith
+word_some r.Yield = omega arith
+
+pub sign_some : (x : Punctuator) → 1 ≤ length (sign_text x)
+sign_some p.OpenBrace = omega arith
+sign_some p.CloseBrace = omega arith
+sign_some p.OpenParen = omega arith
+sign_some p.CloseParen = omega arith
+sign_some p.OpenBracket = omega arith
+sign_some p.CloseBracket = omega arith
+sign_some p.Dot = omega arith
+sign_some p.Ellipsis = omega arith
+sign_some p.Semicolon = omega arith
+sign_some p.Comma = omega arith
+sign_some p.Less = omega arith
+sign_some p.Greater = omega arith
+sign_some p.LessEqual = omega arith
+sign_some p.GreaterEqual = omega arith
+sign_some p.EqualEqual = omega arith
+sign_some p.NotEqual = omega arith
+sign_some p.Identical = omega arith
+sign_some p.NotIdentical = omega arith
+sign_some p.Plus = omega arith
+sign_some p.Minus = omega arith
+sign_some p.Star = omega arith
+sign_some p.Slash = omega arith
+sign_some p.Percent = omega arith
+sign_some p.StarStar = omega arith
+sign_some p.PlusPlus = omega arith
+sign_some p.MinusMinus = omega arith
+sign_some p.ShiftLeft = omega arith
+sign_some p.ShiftRight = omega arith
+sign_some p.ShiftRightUnsigned = omega arith
+sign_some p.Ampersand = omega arith
+sign_some p.Bar = omega arith
+sign_some p.Caret = omega arith
+sign_some p.Not = omega arith
+sign_some p.Tilde = omega arith
+sign_some p.AndAnd = omega arith
+sign_some p.OrOr = omega arith
+sign_some p.QuestionQuestion = omega arith
+sign_some p.Question = omega arith
+sign_some p.QuestionDot = omega arith
+sign_some p.Colon = omega arith
+sign_some p.Equal = omega arith
+sign_some p.PlusEqual = omega arith
+sign_some p.MinusEqual = omega arith
+sign_some p.StarEqual = omega arith
+sign_some p.SlashEqual = omega arith
+sign_some p.PercentEqual = omega arith
+sign_some p.StarStarEqual = omega arith
+sign_some p.ShiftLeftEqual = omega arith
+sign_some p.ShiftRightEqual = omega arith
+sign_some p.ShiftRightUnsignedEqual = omega arith
+sign_some p.AmpersandEqual = omega arith
+sign_some p.BarEqual = omega arith
+sign_some p.CaretEqual = omega arith
+sign_some p.AndAndEqual = omega arith
+sign_some p.OrOrEqual = omega arith
+sign_some p.QuestionQuestionEqual = omega arith
+sign_some p.Arrow = omega arith

@@ -1,0 +1,4 @@
+pub mod TokenText
+pub mod Printed
+pub mod Same
+pub mod Walk
