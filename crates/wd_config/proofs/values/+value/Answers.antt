@@ -1,9 +1,10 @@
-use Rattle.std.proofs.Common.{◌≡◌, ◌<◌, length, Ok, Err, refl, sym, subst, ◌∙◌, arith}
+use Rattle.std.proofs.Common.{◌≡◌, ◌<◌, List, length, Ok, Err, refl, sym, subst, ◌∙◌, arith}
 use Rattle.std.proofs.lemmas.Result.{err_from_is_err_and}
 use Rattle.wd_config.specs.Build.{built}
 use Rattle.wd_config.specs.Reading.{Comes, done, given}
 use Rattle.wd_config.specs.Scope.{context}
 use Rattle.capnp_text.specs.declared.tree.Field.{Field}
+use Rattle.capnp_text.specs.declared.tree.Value.{Value}
 use Rattle.capnp_text.specs.Lexed.{Every}
 use Rattle.wd_config.specs.declared.schema.Shape.{Shape}
 use Rattle.wd_config.specs.Deep.{deep, list_deep, struct_deep}
@@ -76,7 +77,7 @@ listed-loop-first-preserved g t c =
       later = omega (arith, c.in_ok-list.ensures.later, c.loop-first.invariant.later);
       leads = loop_more (item_step read c.args.label.now c.args.kind) c.loop-first.list c.in_ok-list.list c.loop-first.rest.now c.in-Some-split_first.first.now c.in-Some-split_first.more.now (λ made. done made.items) (listed read c.args.label.now c.args.kind (place_of c.args.value.now) (as_list c.args.value.now))
           c.loop-first.invariant.leads c.in-Some-split_first.ensures.cases.0 (subst (λ (r : Reader). Comes (item_step r c.args.label.now c.args.kind c.loop-first.list c.in-Some-split_first.first.now) (Ok c.in_ok-list.list)) same c.in_ok-list.ensures.reads);
-      sound = c.in_ok-list.ensures.sound (length c.in-Some-split_first.more.now) (subst (λ vs. SoundItems c.args.kind (length vs) c.loop-first.list) c.in-Some-split_first.ensures.cases.0 c.loop-first.invariant.sound);
+      sound = c.in_ok-list.ensures.sound (length c.in-Some-split_first.more.now) (subst (λ (vs : List Value). SoundItems c.args.kind (length vs) c.loop-first.list) c.in-Some-split_first.ensures.cases.0 c.loop-first.invariant.sound);
       small = (subst (Every Small) c.in-Some-split_first.ensures.cases.0 c.loop-first.invariant.small).1;
     }
 
