@@ -1,5 +1,5 @@
 -- A field and an item are less deep than what they stand in.
-use Rattle.std.proofs.Common.{◌≡◌, ◌<◌, ◌≤◌, ℕ, List, Ok, arith}
+use Rattle.std.proofs.Common.{◌≡◌, ◌-◌, ◌<◌, ◌≤◌, ℕ, List, Ok, arith}
 use Rattle.capnp_text.specs.declared.tree.Placed.{Placed}
 use Rattle.wd_config.specs.declared.items.Entry.{Entry}
 use Rattle.wd_config.specs.declared.schema.ListKind.{ListKind}
@@ -17,6 +17,9 @@ use Rattle.wd_config.proofs.SoundLaws.{Each, allowed_rule, found}
 
 pub less_deep : (a b c : ℕ) → a < b → b ≤ c → a < c
 less_deep a b c h k = omega arith
+
+pub before_last : (a b : ℕ) → a < b → a ≤ b - 1
+before_last a b h = omega arith
 
 abbrev LessDeep : ℕ → Rule → Type 0
 LessDeep n LeftOut = Unit {0}

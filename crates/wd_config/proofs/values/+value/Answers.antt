@@ -1,7 +1,8 @@
-use Rattle.std.proofs.Common.{◌≡◌, ◌<◌, List, length, Ok, Err, refl, sym, subst, ◌∙◌, arith}
+use Rattle.std.proofs.Common.{◌≡◌, ◌<◌, ℕ, List, length, Option, Some, option_map, Ok, Err, Bor, refl, sym, ap, subst, ◌∙◌, arith}
 use Rattle.std.proofs.lemmas.Result.{err_from_is_err_and}
 use Rattle.wd_config.specs.Build.{built}
-use Rattle.wd_config.specs.Reading.{Comes, done, given}
+use Rattle.wd_config.specs.declared.items.Entry.{Entry}
+use Rattle.wd_config.specs.Reading.{Comes, along, done, given, ◌>>=◌}
 use Rattle.wd_config.specs.Scope.{context}
 use Rattle.capnp_text.specs.declared.tree.Field.{Field}
 use Rattle.capnp_text.specs.declared.tree.Value.{Value}
@@ -12,10 +13,10 @@ use Rattle.wd_config.specs.Room.{Small}
 use Rattle.wd_config.specs.Sound.{Sound, SoundFields, SoundItems}
 use Rattle.wd_config.specs.Values.{Reader, value_item, listed, structured, place_of, as_list, as_struct, item_shape, item_step, field_step}
 use Rattle.wd_config.proofs.Comes.{gives_comes}
-use Rattle.wd_config.proofs.Along.{loop_end, loop_stops, loop_more}
-use Rattle.wd_config.proofs.DeepLaws.{field_deep, item_deep, less_deep}
-use Rattle.wd_config.proofs.RoomLaws.{in_place_small}
-use Rattle.wd_config.proofs.SoundLaws.{built_sound, fields_more, items_more, items_sound}
+use Rattle.wd_config.proofs.Along.{Leads, leads_same, loop_end, loop_stops, loop_more}
+use Rattle.wd_config.proofs.DeepLaws.{before_last, field_deep, item_deep, less_deep}
+use Rattle.wd_config.proofs.RoomLaws.{in_place_small, struct_each}
+use Rattle.wd_config.proofs.SoundLaws.{built_sound, fields_more, fields_none, items_more, items_sound}
 use Rattle.wd_config.proofs.ValueLaws.{value_comes, value_stops, field_refused, field_stops, field_reads, item_stops, item_reads, moved}
 use Rattle.wd_config.proofs.values.+value.Goals as goal
 
@@ -98,6 +99,22 @@ structured-returns-in_err-entries-clause-reads g t c =
     rw (p.1, p.2) (loop_stops (field_step read c.args.taken.now c.args.kind) c.loop-first.entries c.loop-first.rest.now c.in-Some-split_first.first.now c.in-Some-split_first.more.now (λ es. given (built c.args.kind c.in-Some.place es)) (structured read (context c.args.scope.now (g.F.Files.told c.args.files.now)) c.args.taken.now c.args.label.now c.args.kind c.args.value.now (as_struct c.args.value.now)) c.in_err-entries.field-0.0
     c.loop-first.invariant.leads c.in-Some-split_first.ensures.cases.0 (subst (λ (r : Reader). Comes (field_step r c.args.taken.now c.args.kind c.loop-first.entries c.in-Some-split_first.first.now) (Err c.in_err-entries.field-0.0)) same c.in_err-entries.ensures.reads))
 
+pub structured-loop-first-init : goal.structured-loop-first-init
+structured-loop-first-init g t c =
+    let con = context c.args.scope.now (g.F.Files.told c.args.files.now) in
+    let read = value_item c.args.levels con c.args.active.now in
+    let whole = λ (o : Option (ℕ × List Field)). structured read con c.args.taken.now c.args.label.now c.args.kind c.args.value.now o in
+    let fields : as_struct c.args.value.now ≡ Some (c.in-Some.place, c.in-Some.fields.now) = sym c.as_struct.ensures ∙ ap (option_map (λ (e : ℕ × Bor (List Field)). (e.0, e.1.now))) c.in-Some.is in
+    record {
+      same = refl;
+      told = refl;
+      later = omega arith;
+      leads = subst (λ (es : List Entry). Leads (whole (as_struct c.args.value.now)) (along (field_step read c.args.taken.now c.args.kind) es c.in-Some.fields.now >>= λ made. given (built c.args.kind c.in-Some.place made))) (sym c.new-entries.ensures)
+          (leads_same _ _ (ap whole fields));
+      sound = subst (SoundFields c.args.taken.now c.args.kind) (sym c.new-entries.ensures) (fields_none c.args.taken.now c.args.kind);
+      small = struct_each c.args.value.now c.in-Some.place c.in-Some.fields.now (sym fields) c.requires.small;
+    }
+
 pub structured-loop-first-preserved : goal.structured-loop-first-preserved
 structured-loop-first-preserved g t c =
     let read = value_item c.args.levels (context c.args.scope.now (g.F.Files.told c.args.files.now)) c.args.active.now in
@@ -135,22 +152,39 @@ pub value_item-returns-clause-reads : goal.value_item-returns-clause-reads
 value_item-returns-clause-reads g t c =
     value_comes c.args.levels (context c.args.scope.now (g.F.Files.told c.args.files.now)) c.args.active.now c.in_place.new.active c.args.taken.now c.args.label.now c.args.shape c.args.value.now c.in_ok-value.value.now (Ok c.in_ok-item.item) (omega (arith, c.requires.levels)) c.in_ok-value.ensures.value c.in_ok-item.ensures.reads
 
-pub value_item-shaped-requires-clause-small : goal.value_item-shaped-requires-clause-small
-value_item-shaped-requires-clause-small g t c =
-    in_place_small c.args.scope.now.file.now c.args.scope.now.constants.now c.args.active.now c.args.value.now c.in_place.new.active c.in_ok-value.value.now c.requires.file c.requires.small c.in_ok-value.ensures.value
+pub value_item-shaped-requires : goal.value_item-shaped-requires
+value_item-shaped-requires g t c = record {
+  file = c.requires.file;
+  small = in_place_small c.args.scope.now.file.now c.args.scope.now.constants.now c.args.active.now c.args.value.now c.in_place.new.active c.in_ok-value.value.now c.requires.file c.requires.small c.in_ok-value.ensures.value;
+  levels = before_last (deep c.args.shape) c.args.levels c.requires.levels;
+}
 
-pub listed-item-requires-clause-small : goal.listed-item-requires-clause-small
-listed-item-requires-clause-small g t c = (subst (Every Small) c.in-Some-split_first.ensures.cases.0 c.loop-first.invariant.small).0
+pub listed-item-requires : goal.listed-item-requires
+listed-item-requires g t c = record {
+  file = c.requires.file;
+  small = (subst (Every Small) c.in-Some-split_first.ensures.cases.0 c.loop-first.invariant.small).0;
+  levels = c.requires.levels;
+}
 
-pub structured-field-requires-clause-small : goal.structured-field-requires-clause-small
-structured-field-requires-clause-small g t c = (subst (Every (λ (f : Field). Small f.value)) c.in-Some-split_first.ensures.cases.0 c.loop-first.invariant.small).0
+pub structured-field-requires : goal.structured-field-requires
+structured-field-requires g t c = record {
+  file = c.requires.file;
+  small = (subst (Every (λ (f : Field). Small f.value)) c.in-Some-split_first.ensures.cases.0 c.loop-first.invariant.small).0;
+  levels = c.requires.levels;
+}
 
-pub item-value_item-requires-clause-levels : goal.item-value_item-requires-clause-levels
-item-value_item-requires-clause-levels g t c =
-    subst (λ (x : Shape). deep x < c.args.levels) (sym c.item_shape-shape.ensures)
-    (less_deep (deep (item_shape c.args.kind)) (list_deep c.args.kind) c.args.levels (item_deep c.args.kind) c.requires.levels)
+pub item-value_item-requires : goal.item-value_item-requires
+item-value_item-requires g t c = record {
+  file = c.requires.file;
+  small = c.requires.small;
+  levels = subst (λ (x : Shape). deep x < c.args.levels) (sym c.item_shape-shape.ensures)
+      (less_deep (deep (item_shape c.args.kind)) (list_deep c.args.kind) c.args.levels (item_deep c.args.kind) c.requires.levels);
+}
 
-pub field-value_item-requires-clause-levels : goal.field-value_item-requires-clause-levels
-field-value_item-requires-clause-levels g t c =
-    less_deep (deep c.in_ok-slot.shape) (struct_deep c.args.kind) c.args.levels
-    (field_deep c.args.kind c.args.entries c.args.field.now.name c.in_ok-slot.slot c.in_ok-slot.shape c.in_ok-slot.ensures) c.requires.levels
+pub field-value_item-requires : goal.field-value_item-requires
+field-value_item-requires g t c = record {
+  file = c.requires.file;
+  small = c.requires.small;
+  levels = less_deep (deep c.in_ok-slot.shape) (struct_deep c.args.kind) c.args.levels
+      (field_deep c.args.kind c.args.entries c.args.field.now.name c.in_ok-slot.slot c.in_ok-slot.shape c.in_ok-slot.ensures) c.requires.levels;
+}
