@@ -5,8 +5,8 @@ use Rattle.js_lex.specs.declared.token.ScriptFault.{ScriptFault}
 use Rattle.js_lex.specs.declared.token.Token.{Token}
 use Rattle.js_tree.specs.declared.tree.Item.{Item}
 use Rattle.js_grammar.specs.Fault.{IsTreeOf, IsFirstFault}
-use Rattle.js_machine.specs.Answer.{Answer, answer}
-use Rattle.js_machine.proofs.Parsed.{tree_answered, first_answered}
+use Rattle.js_parse_core.specs.Answer.{Answer, answer}
+use Rattle.js_parse_core.proofs.Parsed.{tree_answered, first_answered}
 use Rattle.js_scope.specs.declared.fault.EarlyFault.{EarlyFault}
 use Rattle.js_scope.specs.Early.{early_faults, first}
 use Rattle.js_check.specs.declared.script.ScriptRefusal.{ScriptRefusal}

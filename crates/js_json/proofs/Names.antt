@@ -4,8 +4,8 @@ use Rattle.std.specs.Prelude.{nat_lt, nat_le, min}
 use Rattle.std.proofs.Math.Nat.{min-eq_left}
 use Rattle.std.proofs.lemmas.Bool.{leb-true, lt-ltb, le-ltb, cases_lt, false_from_ne_true, cond-true, cond-false}
 use Rattle.std.proofs.lemmas.List.{take_all, take-append-le, length-take, length-append}
-use Rattle.js_arena.specs.Names.{IsOneOf, IsRefusedName, refused_names, is_one_of}
-use Rattle.js_arena.proofs.Decided.{one_of_found, one_of_told}
+use Rattle.js_names.specs.Names.{IsOneOf, IsRefusedName, refused_names, is_one_of}
+use Rattle.js_names.proofs.Decided.{one_of_found, one_of_told}
 use Rattle.js_json.specs.Lists.{Every}
 use Rattle.js_json.specs.Grammar.{IsAllowed}
 use Rattle.js_json.specs.Machine.{name_with}

@@ -4,7 +4,7 @@ use Rattle.std.specs.Prelude.{◌||◌, ◌==◌, nat_lt, min, flat_map}
 use Rattle.std.proofs.Math.Nat.{min-eq_left}
 use Rattle.std.proofs.lemmas.Bool.{eqb-true, or_from, or_parts, not-true, cond-true, cond-false}
 use Rattle.std.proofs.lemmas.List.{append-nil, length-append}
-use Rattle.js_arena.specs.Names.{is_one_of, refused_names}
+use Rattle.js_names.specs.Names.{is_one_of, refused_names}
 use Rattle.js_json.specs.declared.levels.Level.{Level}
 use Rattle.js_json.specs.declared.machine.Word.TheVariants as word
 use Rattle.js_json.specs.declared.machine.Inner.{Inner}

@@ -5,7 +5,7 @@ use Rattle.std.proofs.Math.Nat.{min-eq_left}
 use Rattle.std.proofs.lemmas.Bool.{eqb-true, or_from, cond_both}
 use Rattle.std.proofs.lemmas.List.{append-nil, map-append, length-append}
 use Rattle.std.proofs.lemmas.Grind.{flat_map-append}
-use Rattle.js_arena.specs.Names.{is_one_of, refused_names}
+use Rattle.js_names.specs.Names.{is_one_of, refused_names}
 use Rattle.js_json.specs.declared.machine.Word.{Word}
 use Rattle.js_json.specs.declared.machine.Word.TheVariants as word
 use Rattle.js_json.specs.declared.machine.Inner.{Inner}

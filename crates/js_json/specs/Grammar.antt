@@ -1,7 +1,7 @@
 -- The grammar of JSON (ECMA-404, RFC 8259), as `JSON.parse` (ECMA-262, section 25.5.1) reads it here: at most 64 arrays and objects
 -- are open at any place, numbers are safe integers, and no key is a refused name.
 use Rattle.std.specs.Prelude.{◌≡◌, ℕ, zero, suc, Bool, true, not, ◌||◌, ◌==◌, nat_lt, List, [], ◌∷◌, ◌++◌, ◌⊎◌, map, flat_map, codes}
-use Rattle.js_arena.specs.Names.{IsRefusedName}
+use Rattle.js_names.specs.Names.{IsRefusedName}
 use Rattle.js_json.specs.Units.{is_blank, is_hex, code_of, is_escape, escaped}
 use Rattle.js_json.specs.Lists.{Every, Passes, Then, Many, Either, One}
 use Rattle.js_json.specs.Number.{IsSafeNumber}

@@ -1,6 +1,6 @@
 -- What each unit does.
 use Rattle.std.specs.Prelude.{ℕ, ◌+◌, ◌-◌, ◌*◌, ◌^◌, min, Bool, true, false, cond, ◌==◌, ◌&&◌, nat_le, nat_lt, List, [], ◌∷◌, ◌++◌, length, Option, Some, None}
-use Rattle.js_arena.specs.Names.{is_one_of, refused_names}
+use Rattle.js_names.specs.Names.{is_one_of, refused_names}
 use Rattle.js_json.specs.declared.levels.Level.{Level}
 use Rattle.js_json.specs.declared.levels.Level.TheVariants as level
 use Rattle.js_json.specs.declared.machine.Word.{Word}

@@ -1,9 +1,9 @@
 ghost use Rattle.std.specs.Prelude.{◌≡◌, [], ◌∷◌, ◌++◌};
 ghost use Rattle.js_json.specs.Machine as spec;
-ghost use Rattle.js_arena.specs.Names.{IsRefusedName, is_one_of, refused_names};
+ghost use Rattle.js_names.specs.Names.{IsRefusedName, is_one_of, refused_names};
 
 use arrayvec::ArrayVec;
-use js_arena::refused_name;
+use js_names::refused_name;
 use std::marker::Model;
 
 /// The units of a key, up to one more than the longest refused name has. It takes no memory.

@@ -6,8 +6,8 @@ use Rattle.js_lex.specs.declared.token.Token.{Token}
 use Rattle.js_lex.specs.Grammar.{AreTokens}
 use Rattle.js_tree.specs.declared.tree.Item.{Item}
 use Rattle.js_grammar.specs.Fault.{IsTreeOf, IsFirstFault}
-use Rattle.js_machine.specs.Answer.{Answer, answer}
-use Rattle.js_machine.proofs.Parsed.{answer_found, tree_answered, answer_first, first_answered}
+use Rattle.js_parse_core.specs.Answer.{Answer, answer}
+use Rattle.js_parse_core.proofs.Parsed.{answer_found, tree_answered, answer_first, first_answered}
 use Rattle.js_parse.specs.declared.reader.ScriptEnd.{ScriptEnd}
 use Rattle.js_parse.specs.declared.reader.ScriptEnd.TheVariants.{Fault, NoMemory}
 use Rattle.js_parse.specs.Answer.{IsAnswer}

@@ -1,8 +1,8 @@
 -- Which answer is given to the tokens of a script.
 use Rattle.std.specs.Prelude.{◌≡◌, List, Result, Ok, Err}
 use Rattle.js_tree.specs.declared.tree.Item.{Item}
-use Rattle.js_machine.specs.declared.machine.State.{State}
-use Rattle.js_machine.specs.Answer.{Answer}
+use Rattle.js_parse_core.specs.declared.machine.State.{State}
+use Rattle.js_parse_core.specs.Answer.{Answer}
 use Rattle.js_parse.specs.declared.reader.ScriptEnd.{ScriptEnd}
 use Rattle.js_parse.specs.declared.reader.ScriptEnd.TheVariants.{Fault, NoMemory}
 

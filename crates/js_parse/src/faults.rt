@@ -1,9 +1,9 @@
 ghost use Rattle.std.specs.Prelude.{◌≡◌, IfOk};
-ghost use Rattle.js_machine.specs.Told as spec;
+ghost use Rattle.js_parse_core.specs.Told as spec;
 
 use js_grammar::letters;
 use js_lex::{ScriptFault, ScriptKind, Token, TokenKind, Tokens};
-use js_machine::{Asked, Refusal, units_of_letters};
+use js_parse_core::{Asked, Refusal, units_of_letters};
 use js_words::{Spot, Word, word_of};
 use std::alloc::Global;
 use wd_base::{NoMemory, Seq, TryClone};

@@ -1,5 +1,5 @@
 use Rattle.std.proofs.Common.{◌≡◌, drop}
-use Rattle.js_machine.specs.Answer as spec
+use Rattle.js_parse_core.specs.Answer as spec
 use Rattle.js_parse.proofs.reader.read.Given as goal
 
 -- what the tokens that are left answer is the answer

@@ -1,5 +1,0 @@
-use Rattle.std.proofs.Common.{length}
-use Rattle.js_machine.proofs.outer.+complete.Given as goal
-
-abbrev pub decreases-complete : goal.decreases-complete
-decreases-complete l = length l.outer.frames
