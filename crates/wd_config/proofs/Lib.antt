@@ -18,3 +18,5 @@ pub mod ValueLaws
 pub mod ConfiguredLaws
 pub mod ToldLaws
 pub mod SoundLaws
+pub mod DeepLaws
+pub mod RoomLaws

@@ -1,9 +1,9 @@
 -- What is read is sound.
-use Rattle.std.specs.Prelude.{◌≡◌, ◌&&◌, not, ℕ, Bool, true, false, cond, List, [], ◌∷◌, ◌++◌, map, Option, Some, None, Result, Ok, Err, IfSome, IfOk, codes, refl}
-use Rattle.std.proofs.Common.{sym, ap, subst, ◌∙◌}
+use Rattle.std.specs.Prelude.{◌≡◌, ◌<◌, ◌≤◌, ◌+◌, ◌^◌, suc, length, not, ℕ, Bool, true, false, cond, List, [], ◌∷◌, ◌++◌, map, Option, Some, None, Result, Ok, Err, IfSome, IfOk, codes, refl}
+use Rattle.std.proofs.Common.{sym, ap, subst, arith}
 use Rattle.std.specs.Str.{bytes_eq, is_utf8}
 use Rattle.std.proofs.lemmas.Bool.{false≢true}
-use Rattle.std.proofs.lemmas.List.{map-append}
+use Rattle.std.proofs.lemmas.List.{length-append, map-append}
 use Rattle.wd_base.specs.declared.config.Config.{Config}
 use Rattle.wd_base.specs.declared.config.Kind.{Kind}
 use Rattle.wd_base.specs.declared.config.Service.{Service}
@@ -33,8 +33,9 @@ use Rattle.wd_config.specs.Configured.{config_in}
 use Rattle.wd_config.specs.Given.{Given, Gives, fault, ◌>>=◌}
 use Rattle.wd_config.specs.Items.{item_of}
 use Rattle.wd_config.specs.Names.{Names, has_name, put}
+use Rattle.wd_config.specs.Room.{most_bytes}
 use Rattle.wd_config.specs.Schema.{Row, rule_in, rule_of, same_slot, config_rows, service_rows}
-use Rattle.wd_config.specs.Sound.{Apart, ApartConfig, ApartServices, FreeService, FreeText, IsFree, Sound, SoundFields, SoundItems, TakenServices, names_of}
+use Rattle.wd_config.specs.Sound.{Apart, AreSound, ApartConfig, ApartServices, FreeService, FreeText, Sound, SoundFields, SoundItems, TakenServices, names_of}
 use Rattle.wd_config.specs.Values.{allowed, allowed_by, bare, checked, empty_list, entry, item_shape, with_item, with_name, wrong}
 use Rattle.wd_config.proofs.DifferLemmas.{apart_more, apart_none, apart_wider}
 
@@ -91,7 +92,7 @@ more_items : (P : Item → Type 0) (es : List Entry) (s : Slot) (e : Entry) → 
 more_items P [] s e h f = last_item P e (same_slot e.slot s) f
 more_items P (d ∷ es) s e h f = first_item P d (item_of es s) (item_of (es ++ e ∷ []) s) (same_slot d.slot s) (λ g. more_items P es s e g f) h
 
-abbrev Each : (Rule → Type 0) → List Row → Type 0
+abbrev pub Each : (Rule → Type 0) → List Row → Type 0
 Each P [] = Unit {0}
 Each P (r ∷ rs) = P r.rule × Each P rs
 
@@ -99,7 +100,7 @@ found_at : (P : Rule → Type 0) (row : Row) (rs : List Row) (name : List ℕ) (
 found_at P row rs name r true p go e = let f : row.rule ≡ r = cc in subst P f p
 found_at P row rs name r false p go e = go e
 
-found : (P : Rule → Type 0) (rs : List Row) (name : List ℕ) (r : Rule) → Each P rs → rule_in rs name ≡ Some r → P r
+pub found : (P : Rule → Type 0) (rs : List Row) (name : List ℕ) (r : Rule) → Each P rs → rule_in rs name ≡ Some r → P r
 found P [] name r all e = cc
 found P (row ∷ rs) name r (p, all) e = found_at P row rs name r (bytes_eq name row.name) p (λ f. found P rs name r all f) e
 
@@ -121,7 +122,7 @@ allowed_at : (n : Placed) (t : Slot) (y : Shape) (b : Bool) (s : Slot) (x : Shap
 allowed_at n t y true s x e = cc
 allowed_at n t y false s x e = let a : Slot × Shape = (t, y) in let f : a ≡ (s, x) = cc in ap (λ (p : Slot × Shape). Some (Reads p.0 p.1)) f
 
-allowed_rule : (es : List Entry) (n : Placed) (r : Option Rule) (s : Slot) (x : Shape) → allowed_by es n r ≡ Ok (s, x) → r ≡ Some (Reads s x)
+pub allowed_rule : (es : List Entry) (n : Placed) (r : Option Rule) (s : Slot) (x : Shape) → allowed_by es n r ≡ Ok (s, x) → r ≡ Some (Reads s x)
 allowed_rule es n None s x e = cc
 allowed_rule es n (Some LeftOut) s x e = cc
 allowed_rule es n (Some (Reads t y)) s x e = allowed_at n t y _ s x e
@@ -154,10 +155,10 @@ service_at taken p (Some (item.Text t)) None i h e = cc
 service_at taken p (Some (item.Text t)) (Some w) i h e = let f : item.Service (record { name = t; kind = w }) ≡ i = cc in subst (FreeService taken) f h
 service_at taken p (Some _) k i h e = cc
 
-services_at : (found : Option Item) → IfSome found ApartServices → Differ (names_of (services_of found))
-services_at None h = tt
+services_at : (found : Option Item) → IfSome found ApartServices → AreSound (services_of found)
+services_at None h = (tt, omega arith)
 services_at (Some (item.Services ss)) h = h
-services_at (Some _) h = tt
+services_at (Some _) h = (tt, omega arith)
 
 built_at : (taken : Names) (k : StructKind) (p : ℕ) (es : List Entry) (i : Item) → SoundFields taken k es → built k p es ≡ Ok i → Sound taken (shape.Struct k) i
 unfolding SoundFields Sound built
@@ -171,42 +172,53 @@ built_sound taken k p es y h g = if_gives (built k p es) (Sound taken (shape.Str
 
 -- ---- lists
 
-pub items_none : (k : ListKind) → SoundItems k (record { items = empty_list k; taken = [] })
+pub items_none : (k : ListKind) (n : ℕ) → n ≤ most_bytes → SoundItems k n (record { items = empty_list k; taken = [] })
 unfolding SoundItems
-items_none list.Services = apart_none
-items_none _ = tt
+items_none list.Services n h = (apart_none, omega (arith, h))
+items_none _ n h = tt
 
-one_service : (taken : Names) (ss : List Service) (i : Item) → Apart taken (names_of ss) → FreeService taken i → TakenServices (with_name taken i) (with_item (item.Services ss) i)
+more_room : (l m n k : ℕ) → m ≡ l + 1 → l + suc n ≤ k → m + n ≤ k
+more_room l m n k e h = omega arith
+
+same_room : (l n k : ℕ) → l + suc n ≤ k → l + n ≤ k
+same_room l n k h = omega arith
+
+one_service : (n : ℕ) (taken : Names) (ss : List Service) (i : Item) → Apart taken (names_of ss) → length ss + suc n ≤ most_bytes → FreeService taken i → TakenServices n (with_name taken i) (with_item (item.Services ss) i)
 unfolding with_item with_name
-one_service taken ss (item.Service s) a h = subst (Apart (put taken s.name 0)) (sym (map-append (λ (t : Service). t.name) ss (s ∷ []))) (apart_more taken (names_of ss) s.name 0 a h)
-one_service taken ss (item.Binding b) a h = apart_wider taken (names_of ss) b.name 0 a
-one_service taken ss (item.Socket s) a h = apart_wider taken (names_of ss) s.name 0 a
-one_service taken ss _ a h = a
+one_service n taken ss (item.Service s) a r h =
+    (subst (Apart (put taken s.name 0)) (sym (map-append (λ (t : Service). t.name) ss (s ∷ []))) (apart_more taken (names_of ss) s.name 0 a h), more_room (length ss) (length (ss ++ s ∷ [])) n most_bytes (length-append ss (s ∷ [])) r)
+one_service n taken ss (item.Binding b) a r h = (apart_wider taken (names_of ss) b.name 0 a, same_room (length ss) n most_bytes r)
+one_service n taken ss (item.Socket s) a r h = (apart_wider taken (names_of ss) s.name 0 a, same_room (length ss) n most_bytes r)
+one_service n taken ss _ a r h = (a, same_room (length ss) n most_bytes r)
 
-services_more : (taken : Names) (items i : Item) → TakenServices taken items → FreeService taken i → TakenServices (with_name taken i) (with_item items i)
-services_more taken (item.Services ss) i a h = one_service taken ss i a h
-services_more taken _ i a h = absurd a
+services_more : (n : ℕ) (taken : Names) (items i : Item) → TakenServices (suc n) taken items → FreeService taken i → TakenServices n (with_name taken i) (with_item items i)
+services_more n taken (item.Services ss) i (a, r) h = one_service n taken ss i a r h
+services_more n taken _ i a h = absurd a
 
-pub items_more : (k : ListKind) (l : Listed) (i : Item) → Sound l.taken (item_shape k) i → SoundItems k l → SoundItems k (record { items = with_item l.items i; taken = with_name l.taken i })
+pub items_more : (k : ListKind) (n : ℕ) (l : Listed) (i : Item) → Sound l.taken (item_shape k) i → SoundItems k (suc n) l → SoundItems k n (record { items = with_item l.items i; taken = with_name l.taken i })
 unfolding SoundItems Sound
-items_more list.Services l i h a = services_more l.taken l.items i a h
-items_more _ l i h a = tt
+items_more list.Services n l i h a = services_more n l.taken l.items i a h
+items_more _ n l i h a = tt
 
-services_apart : (taken : Names) (items : Item) → TakenServices taken items → ApartServices items
-services_apart taken (item.Services ss) a = a.differ
-services_apart taken _ a = absurd a
+services_apart : (n : ℕ) (taken : Names) (items : Item) → TakenServices n taken items → ApartServices items
+services_apart n taken (item.Services ss) (a, r) = (a.differ, omega (arith, r))
+services_apart n taken _ a = absurd a
 
-pub items_sound : (taken : Names) (k : ListKind) (l : Listed) → SoundItems k l → Sound taken (shape.List k) l.items
+pub items_sound : (taken : Names) (k : ListKind) (n : ℕ) (l : Listed) → SoundItems k n l → Sound taken (shape.List k) l.items
 unfolding SoundItems Sound
-items_sound taken list.Services l a = services_apart l.taken l.items a
-items_sound taken _ l a = tt
+items_sound taken list.Services n l a = services_apart n l.taken l.items a
+items_sound taken _ n l a = tt
 
 -- ---- the whole
 
-config_at : (i : Item) (c : Config) → config_in i ≡ Ok c → ApartConfig i → Differ (names_of c.services)
-config_at (item.Config d) c e h = let f : d ≡ c = cc in subst (λ (z : Config). Differ (names_of z.services)) f h
+config_at : (i : Item) (c : Config) → config_in i ≡ Ok c → ApartConfig i → AreSound c.services
+config_at (item.Config d) c e h = let f : d ≡ c = cc in subst (λ (z : Config). AreSound z.services) f h
 config_at _ c e h = cc
 
 pub config_sound : (taken : Names) (i : Item) (y : Result Config Stop) → Sound taken (shape.Struct struct.Config) i → Gives (config_in i) y → IfOk y (λ c. Differ (names_of c.services))
 unfolding Sound
-config_sound taken i y h g = if_gives (config_in i) (λ c. Differ (names_of c.services)) y (λ c e. config_at i c e h) g
+config_sound taken i y h g = if_gives (config_in i) (λ c. Differ (names_of c.services)) y (λ c e. (config_at i c e h).0) g
+
+pub config_few : (taken : Names) (i : Item) (y : Result Config Stop) → Sound taken (shape.Struct struct.Config) i → Gives (config_in i) y → IfOk y (λ c. length c.services < 2 ^ 31)
+unfolding Sound
+config_few taken i y h g = if_gives (config_in i) (λ c. length c.services < 2 ^ 31) y (λ c e. (config_at i c e h).1) g

@@ -7,8 +7,6 @@ use Rattle.capnp_text.specs.declared.tree.Decl.{Decl}
 use Rattle.capnp_text.specs.declared.reader.TextFault.{TextFault}
 use Rattle.capnp_text.specs.Fault.{IsText, IsFirstFault}
 use Rattle.wd_config.specs.declared.faults.ConfigKind.TheVariants as kind
-use Rattle.capnp_text.specs.declared.tree.Placed.{Placed}
-use Rattle.wd_config.specs.declared.faults.Refusal.{Refusal}
 use Rattle.wd_config.specs.declared.faults.Stop.{Stop}
 use Rattle.wd_config.specs.declared.faults.Stop.TheVariants as stop
 use Rattle.wd_config.specs.declared.faults.ConfigEnd.{ConfigEnd}
@@ -39,31 +37,12 @@ Answered bytes name folder files (Ok config) = (r : Read Config) × Answers byte
 Answered bytes name folder files (Err (Fault f)) = (r : Read Config) × Answers bytes name folder files r × Tells r (Err (Fault f))
 Answered bytes name folder files (Err NoMemory) = Unit {0}
 
--- ---- what is answered to what was read
-
--- this configuration is answered, unless memory ran out
-abbrev pub EndsWith : Config → Result Config ConfigEnd → Type 0
-EndsWith c (Ok d) = d ≡ c
-EndsWith c (Err (Fault f)) = ⊥
-EndsWith c (Err NoMemory) = Unit {0}
-
--- this is refused, unless memory ran out
-abbrev pub EndsAt : Refusal → Result Config ConfigEnd → Type 0
-EndsAt f (Ok d) = ⊥
-EndsAt f (Err (Fault g)) = g ≡ config_fault f
-EndsAt f (Err NoMemory) = Unit {0}
-
--- this embed's fault is answered, unless memory ran out
-abbrev pub EndsIn : Placed → Result Config ConfigEnd → Type 0
-EndsIn w (Ok d) = ⊥
-EndsIn w (Err (Fault g)) = g ≡ record { kind = kind.EmbedFault; place = w.place; name = w.bytes }
-EndsIn w (Err NoMemory) = Unit {0}
-
-abbrev pub Ends : Result Config Stop → Result Config ConfigEnd → Type 0
-Ends (Ok c) z = EndsWith c z
-Ends (Err (stop.Refused f)) z = EndsAt f z
-Ends (Err (stop.Failed w)) z = EndsIn w z
-Ends (Err stop.NoMemory) z = z ≡ Err NoMemory
+-- what is answered to what was read
+abbrev pub ended : Result Config Stop → Result Config ConfigEnd
+ended (Ok c) = Ok c
+ended (Err (stop.Refused f)) = Err (Fault (config_fault f))
+ended (Err (stop.Failed w)) = Err (Fault (record { kind = kind.EmbedFault; place = w.place; name = w.bytes }))
+ended (Err stop.NoMemory) = Err NoMemory
 
 -- no two of the names are one
 abbrev pub Differ : List (List ℕ) → Type 0

@@ -4,6 +4,7 @@ pub mod Build
 pub mod Configured
 pub mod Cut
 pub mod Dates
+pub mod Deep
 pub mod Given
 pub mod Items
 pub mod Leaves
@@ -11,6 +12,7 @@ pub mod Names
 pub mod Numbers
 pub mod Ranges
 pub mod Reading
+pub mod Room
 pub mod Schema
 pub mod Scope
 pub mod Sound

@@ -1,5 +1,5 @@
 -- What holds of every item that is read, whether the files are told or not.
-use Rattle.std.specs.Prelude.{◌≡◌, false, ℕ, List, map, IfSome}
+use Rattle.std.specs.Prelude.{◌≡◌, ◌<◌, ◌≤◌, ◌+◌, ◌^◌, false, ℕ, List, length, map, IfSome}
 use Rattle.std.specs.List.{All}
 use Rattle.wd_base.specs.declared.config.Service.{Service}
 use Rattle.wd_config.specs.declared.items.Item.{Item}
@@ -17,6 +17,7 @@ use Rattle.wd_config.specs.declared.schema.Shape.TheVariants as shape
 use Rattle.wd_config.specs.Answer.{Differ}
 use Rattle.wd_config.specs.Items.{item_of}
 use Rattle.wd_config.specs.Names.{Names, has_name}
+use Rattle.wd_config.specs.Room.{most_bytes}
 
 -- no item before it has the name
 abbrev pub IsFree : Names → List ℕ → Type 0
@@ -24,6 +25,10 @@ IsFree taken name = has_name taken name ≡ false
 
 abbrev pub names_of : List Service → List (List ℕ)
 names_of ss = map (λ s. s.name) ss
+
+-- they differ in their names, and are few
+abbrev pub AreSound : List Service → Type 0
+AreSound ss = Differ (names_of ss) × (length ss < 2 ^ 31)
 
 abbrev pub FreeText : Names → Item → Type 0
 FreeText taken (item.Text t) = IsFree taken t
@@ -34,14 +39,14 @@ FreeService taken (item.Service s) = IsFree taken s.name
 FreeService taken _ = Unit {0}
 
 abbrev pub ApartServices : Item → Type 0
-ApartServices (item.Services ss) = Differ (names_of ss)
+ApartServices (item.Services ss) = AreSound ss
 ApartServices _ = Unit {0}
 
 abbrev pub ApartConfig : Item → Type 0
-ApartConfig (item.Config c) = Differ (names_of c.services)
+ApartConfig (item.Config c) = AreSound c.services
 ApartConfig _ = Unit {0}
 
--- what is read as a name is free, and so is the name of a service; the services of a list differ in their names
+-- what is read as a name is free, and so is the name of a service; the services of a list differ in their names, and are few
 unfoldable pub Sound : Names → Shape → Item → Type 0
 Sound taken (shape.Leaf leaf.Name) i = FreeText taken i
 Sound taken (shape.Struct struct.Service) i = FreeService taken i
@@ -60,11 +65,12 @@ pub record Apart (taken : Names) (names : List (List ℕ)) : Type 0 where
   pub differ : Differ names
   pub absent : (q : List ℕ) → IsFree taken q → All (λ m. m ≡ q → ⊥) names
 
-abbrev pub TakenServices : Names → Item → Type 0
-TakenServices taken (item.Services ss) = Apart taken (names_of ss)
-TakenServices taken _ = ⊥
+-- so many may follow
+abbrev pub TakenServices : ℕ → Names → Item → Type 0
+TakenServices n taken (item.Services ss) = Apart taken (names_of ss) × (length ss + n ≤ most_bytes)
+TakenServices n taken _ = ⊥
 
--- the items that were read of a list, before its end
-unfoldable pub SoundItems : ListKind → Listed → Type 0
-SoundItems list.Services l = TakenServices l.taken l.items
-SoundItems _ l = Unit {0}
+-- the items that were read of a list, before so many others
+unfoldable pub SoundItems : ListKind → ℕ → Listed → Type 0
+SoundItems list.Services n l = TakenServices n l.taken l.items
+SoundItems _ n l = Unit {0}

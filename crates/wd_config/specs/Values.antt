@@ -91,14 +91,14 @@ constant_in _ = None
 unfoldable pub as_constant : Value → Option (ℕ × Placed)
 as_constant v = constant_in (out-Value v)
 
-abbrev struct_in : Value-F Value Field → Option (ℕ × List Field)
+abbrev pub struct_in : Value-F Value Field → Option (ℕ × List Field)
 struct_in (Value-F.Struct p fs) = Some (p, fs)
 struct_in _ = None
 
 unfoldable pub as_struct : Value → Option (ℕ × List Field)
 as_struct v = struct_in (out-Value v)
 
-abbrev list_in : Value-F Value Field → Option (List Value)
+abbrev pub list_in : Value-F Value Field → Option (List Value)
 list_in (Value-F.List p vs) = Some vs
 list_in _ = None
 
@@ -121,7 +121,7 @@ place_of v = place_in (out-Value v)
 
 -- ---- constants in place
 
-abbrev value_of : Option Decl → Option Value
+abbrev pub value_of : Option Decl → Option Value
 value_of (Some (decl.Const n t v)) = Some v
 value_of _ = None
 
@@ -136,11 +136,11 @@ among open_ i = list_any (nat_eq i) open_
 abbrev pub InPlace : Type 0
 InPlace = List ℕ × Value
 
-abbrev entered : List ℕ → ℕ → ℕ → Placed → Option Value → Given InPlace
+abbrev pub entered : List ℕ → ℕ → ℕ → Placed → Option Value → Given InPlace
 entered open_ i p w None = fault kind.NoSuchConst p w.bytes
 entered open_ i p w (Some v) = Ok (open_ ++ i ∷ [], v)
 
-abbrev opened_at : List Decl → List ℕ → ℕ → Placed → Option ℕ → Given InPlace
+abbrev pub opened_at : List Decl → List ℕ → ℕ → Placed → Option ℕ → Given InPlace
 opened_at file open_ p w None = fault kind.NoSuchConst p w.bytes
 opened_at file open_ p w (Some i) = if among open_ i then fault kind.ConstLoop p w.bytes else entered open_ i p w (value_at file i)
 

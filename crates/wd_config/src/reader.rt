@@ -1,10 +1,12 @@
 ghost use Rattle.std.specs.Prelude.{◌≡◌, [], ◌<◌, ◌≤◌, ◌^◌, length, map, IfOk};
 ghost use Rattle.std.specs.Option.{option_map};
 ghost use Rattle.wd_base.specs.declared.config.Config.{Config as ConfigIs};
-ghost use Rattle.wd_config.specs.Answer.{Answered, Differ, Ends, EndsWith};
+ghost use Rattle.wd_config.specs.Answer.{Answered, Differ};
+ghost use Rattle.wd_config.specs.Answer as answer;
 ghost use Rattle.wd_config.specs.Configured as spec;
 ghost use Rattle.wd_config.specs.Given.{Gives};
 ghost use Rattle.wd_config.specs.Reading.{IsEmbedFault, Comes, IsFailed};
+ghost use Rattle.wd_config.specs.Room.{Small, SmallFile};
 ghost use Rattle.wd_config.specs.Scope.{context};
 ghost use Rattle.wd_ports.specs.Faults.{part, RoseIn, ReadFile};
 
@@ -22,7 +24,7 @@ use std::alloc::Global;
 use wd_base::{Config, Seq};
 use wd_ports::Files;
 
-/// How many values may stand in one another: a configuration, its services, one of these, its
+/// So many values stand in one another at most: a configuration, its services, one of these, its
 /// Worker, the Worker's bindings, one of these, its designator, and a name.
 const MOST_LEVELS: usize = 8;
 
@@ -48,8 +50,11 @@ fn rooted_config<F: Files>(
     files: &mut F,
     root: &Root<'_>,
 ) -> Result<Config, Stop>
+    requires file { SmallFile scope.now.file.now }
+    requires small { Small root.now.value.now }
     ensures reads { Comes (spec.rooted_config (context scope.now (F.told files.old)) (spec.root_of root.now)) result }
     ensures differ { IfOk result (λ c. Differ (map (λ s. s.name) c.services)) }
+    ensures few { IfOk result (λ c. length c.services < 2 ^ 31) }
     ensures tells { F.told files.new ≡ F.told files.old }
     ensures later { part ReadFile (F.faults files.old) ≤ part ReadFile (F.faults files.new) }
     ensures fault { IsFailed result → RoseIn ReadFile (F.faults files.old) (F.faults files.new) }
@@ -80,8 +85,10 @@ fn configured<F: Files>(
     folder: &str,
     files: &mut F,
 ) -> Result<Config, Stop>
+    requires { SmallFile file.now }
     ensures reads { Comes (spec.configured (option_map (λ s. s.now) const_name.entry) folder.now (F.told files.old).files file.now) result }
     ensures differ { IfOk result (λ c. Differ (map (λ s. s.name) c.services)) }
+    ensures few { IfOk result (λ c. length c.services < 2 ^ 31) }
     ensures tells { F.told files.new ≡ F.told files.old }
     ensures later { part ReadFile (F.faults files.old) ≤ part ReadFile (F.faults files.new) }
     ensures fault { IsFailed result → RoseIn ReadFile (F.faults files.old) (F.faults files.new) }
@@ -141,14 +148,12 @@ pub fn read<F: Files>(
     }
 }
 
-/// What is answered to what was read. Its services are fewer than 2 ^ 31, since no text has room
-/// for more.
+/// What is answered to what was read.
 fn ended(found: Result<Config, Stop>) -> Result<Config, ConfigEnd>
-    ensures ends { Ends found result }
-    ensures few { IfOk result (λ c. length c.services < 2 ^ 31) }
+    ensures { result ≡ answer.ended found }
 {
     match found {
-        Ok(config) => whole(config),
+        Ok(config) => Ok(config),
         Err(Stop::Refused(refusal)) => Err(ConfigEnd::Fault(config_fault(refusal))),
         Err(Stop::Failed(path)) => Err(ConfigEnd::Fault(ConfigFault {
             kind: ConfigKind::EmbedFault,
@@ -157,14 +162,4 @@ fn ended(found: Result<Config, Stop>) -> Result<Config, ConfigEnd>
         })),
         Err(Stop::NoMemory) => Err(ConfigEnd::NoMemory),
     }
-}
-
-fn whole(config: Config) -> Result<Config, ConfigEnd>
-    ensures same { EndsWith config result }
-    ensures few { IfOk result (λ c. length c.services < 2 ^ 31) }
-{
-    if config.services.len() >= 2147483648 {
-        return Err(ConfigEnd::NoMemory);
-    }
-    Ok(config)
 }

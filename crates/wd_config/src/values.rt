@@ -1,9 +1,11 @@
-ghost use Rattle.std.specs.Prelude.{◌≡◌, ◌≤◌, [], ◌∷◌, ◌++◌, IfOk, OnOk};
+ghost use Rattle.std.specs.Prelude.{◌≡◌, ◌<◌, ◌≤◌, ℕ, suc, [], ◌∷◌, ◌++◌, IfOk, OnOk};
 ghost use Rattle.wd_config.specs.Build.{built};
 ghost use Rattle.wd_ports.specs.Faults.{part, RoseIn, ReadFile};
+ghost use Rattle.wd_config.specs.Deep.{deep, list_deep, struct_deep};
 ghost use Rattle.wd_config.specs.Given.{Gives};
 ghost use Rattle.wd_config.specs.Reading.{Comes, IsFailed};
 ghost use Rattle.wd_config.specs.Scope.{context};
+ghost use Rattle.wd_config.specs.Room.{Small, SmallFile};
 ghost use Rattle.wd_config.specs.Sound.{Sound, SoundFields, SoundItems};
 ghost use Rattle.wd_config.specs.Names.{Names as TakenNames};
 ghost use Rattle.wd_config.specs.declared.schema.Shape.TheVariants as shapes;
@@ -166,6 +168,9 @@ pub fn value_item<'a, F: Files>(
     shape: Shape,
     value: &'a Value,
 ) -> Result<Item, Stop>
+    requires file { SmallFile scope.now.file.now }
+    requires small { Small value.now }
+    requires levels { deep shape < levels }
     ensures reads { Comes (spec.value_item levels (context scope.now (F.told files.old)) active.old taken.now label.now shape value.now) result }
     ensures sound { IfOk result (Sound taken.now shape) }
     ensures same { OnOk result (active.new ≡ active.old) }
@@ -173,9 +178,6 @@ pub fn value_item<'a, F: Files>(
     ensures later { part ReadFile (F.faults files.old) ≤ part ReadFile (F.faults files.new) }
     ensures fault { IsFailed result → RoseIn ReadFile (F.faults files.old) (F.faults files.new) }
 {
-    if levels == 0 {
-        return Err(Stop::NoMemory);
-    }
     let before = active.len();
     let value = in_place(alloc, scope, active, value)?;
     let item = shaped(
@@ -207,6 +209,9 @@ fn shaped<'a, F: Files>(
     shape: Shape,
     value: &'a Value,
 ) -> Result<Item, Stop>
+    requires file { SmallFile scope.now.file.now }
+    requires small { Small value.now }
+    requires levels { deep shape ≤ levels }
     ensures reads { Comes (spec.shaped (spec.value_item levels (context scope.now (F.told files.old)) active.old) (context scope.now (F.told files.old)) taken.now label.now shape value.now) result }
     ensures sound { IfOk result (Sound taken.now shape) }
     ensures same { OnOk result (active.new ≡ active.old) }
@@ -239,8 +244,11 @@ fn item<'a, F: Files>(
     list: Listed,
     value: &'a Value,
 ) -> Result<Listed, Stop>
+    requires file { SmallFile scope.now.file.now }
+    requires small { Small value.now }
+    requires levels { list_deep kind ≤ levels }
     ensures reads { Comes (spec.item_step (spec.value_item levels (context scope.now (F.told files.old)) active.old) label.now kind list value.now) result }
-    ensures sound { SoundItems kind list → IfOk result (SoundItems kind) }
+    ensures sound { (n : ℕ) → SoundItems kind (suc n) list → IfOk result (SoundItems kind n) }
     ensures same { OnOk result (active.new ≡ active.old) }
     ensures tells { F.told files.new ≡ F.told files.old }
     ensures later { part ReadFile (F.faults files.old) ≤ part ReadFile (F.faults files.new) }
@@ -264,7 +272,7 @@ fn item<'a, F: Files>(
 
 /// A list, item by item.
 #[cycle(value)]
-#[tactic(auto, using(crate::proofs::Comes::gives_comes, crate::proofs::SoundLaws::items_none))]
+#[tactic(auto, using(crate::proofs::Comes::gives_comes, crate::proofs::SoundLaws::items_none, crate::proofs::RoomLaws::list_each, crate::proofs::RoomLaws::list_few))]
 fn listed<'a, F: Files>(
     levels: usize,
     alloc: Global,
@@ -275,6 +283,9 @@ fn listed<'a, F: Files>(
     kind: ListKind,
     value: &'a Value,
 ) -> Result<Item, Stop>
+    requires file { SmallFile scope.now.file.now }
+    requires small { Small value.now }
+    requires levels { list_deep kind ≤ levels }
     ensures reads { Comes (spec.listed (spec.value_item levels (context scope.now (F.told files.old)) active.old) label.now kind (spec.place_of value.now) (spec.as_list value.now)) result }
     ensures sound { (taken : TakenNames) → IfOk result (Sound taken (shapes.List kind)) }
     ensures same { OnOk result (active.new ≡ active.old) }
@@ -317,6 +328,9 @@ fn field<'a, F: Files>(
     entries: Entries,
     field: &'a Field,
 ) -> Result<Entries, Stop>
+    requires file { SmallFile scope.now.file.now }
+    requires small { Small field.now.value }
+    requires levels { struct_deep kind ≤ levels }
     ensures reads { Comes (spec.field_step (spec.value_item levels (context scope.now (F.told files.old)) active.old) taken.now kind entries field.now) result }
     ensures sound { SoundFields taken.now kind entries → IfOk result (SoundFields taken.now kind) }
     ensures same { OnOk result (active.new ≡ active.old) }
@@ -342,7 +356,7 @@ fn field<'a, F: Files>(
 
 /// A struct, field by field, or the text that stands for it.
 #[cycle(value)]
-#[tactic(auto, using(crate::proofs::SoundLaws::fields_none))]
+#[tactic(auto, using(crate::proofs::SoundLaws::fields_none, crate::proofs::RoomLaws::struct_each))]
 fn structured<'a, F: Files>(
     levels: usize,
     alloc: Global,
@@ -354,6 +368,9 @@ fn structured<'a, F: Files>(
     kind: StructKind,
     value: &'a Value,
 ) -> Result<Item, Stop>
+    requires file { SmallFile scope.now.file.now }
+    requires small { Small value.now }
+    requires levels { struct_deep kind ≤ levels }
     ensures reads { Comes (spec.structured (spec.value_item levels (context scope.now (F.told files.old)) active.old) (context scope.now (F.told files.old)) taken.now label.now kind value.now (spec.as_struct value.now)) result }
     ensures sound { IfOk result (Sound taken.now (shapes.Struct kind)) }
     ensures same { OnOk result (active.new ≡ active.old) }

@@ -2,6 +2,7 @@ use Rattle.std.proofs.Common.{ℕ, List, Bor, option_map}
 use Rattle.std.proofs.lemmas.Result.{err_from_is_err_and}
 use Rattle.wd_config.specs.Configured.{root_of}
 use Rattle.wd_config.proofs.ConfiguredLaws.{tables_stop, imports_stop, types_stop, name_stops, root_stops, config_comes}
+use Rattle.wd_config.proofs.RoomLaws.{root_small}
 use Rattle.wd_config.proofs.reader.configured.Goals as goal
 
 pub returns-in_err-tables-clause-reads : goal.returns-in_err-tables-clause-reads
@@ -28,3 +29,6 @@ pub returns-clause-reads : goal.returns-clause-reads
 returns-clause-reads g c =
     config_comes (option_map (λ (s : Bor (List ℕ)). s.now) c.args.const_name) c.args.folder.now (g.F.Files.told c.args.files.now).files c.args.file.now c.in_ok-tables.tables c.in_ok-check_imports.field-0 c.in_ok-check_types.field-0 c.in_ok-name.name c.as_slice.result.now (root_of c.in_ok-root.root) c.rooted_config.result
     c.in_ok-tables.ensures c.in_ok-check_imports.ensures c.in_ok-check_types.ensures c.in_ok-name.ensures c.as_slice.ensures c.in_ok-root.ensures c.rooted_config.ensures.reads
+
+pub rooted_config-requires-clause-small : goal.rooted_config-requires-clause-small
+rooted_config-requires-clause-small g c = root_small c.in_ok-tables.tables.constants c.args.file.now c.as_slice.result.now (root_of c.in_ok-root.root) c.in_ok-root.ensures c.requires

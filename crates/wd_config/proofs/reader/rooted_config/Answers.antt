@@ -3,7 +3,7 @@ use Rattle.std.proofs.lemmas.Result.{err_from_is_err_and}
 use Rattle.wd_config.specs.Scope.{context}
 use Rattle.wd_config.specs.Configured.{root_of}
 use Rattle.wd_config.proofs.ConfiguredLaws.{rooted_stops, rooted_comes}
-use Rattle.wd_config.proofs.SoundLaws.{config_sound}
+use Rattle.wd_config.proofs.SoundLaws.{config_few, config_sound}
 use Rattle.wd_config.proofs.reader.rooted_config.Goals as goal
 
 pub returns-in_err-item-clause-reads : goal.returns-in_err-item-clause-reads
@@ -16,3 +16,6 @@ returns-clause-reads g c =
 
 pub returns-clause-differ : goal.returns-clause-differ
 returns-clause-differ g c = config_sound c.new-taken.result c.in_ok-item.item c.config_in.result c.in_ok-item.ensures.sound c.config_in.ensures
+
+pub returns-clause-few : goal.returns-clause-few
+returns-clause-few g c = config_few c.new-taken.result c.in_ok-item.item c.config_in.result c.in_ok-item.ensures.sound c.config_in.ensures

@@ -2,6 +2,9 @@ use Rattle.std.proofs.Common.{◌≡◌, ◌+◌, ◌*◌, ◌≤◌, length}
 use Rattle.wd_ports.specs.Faults.{part, ReadFile}
 use Rattle.wd_config.specs.Reading.{along, done, given, ◌>>=◌}
 use Rattle.wd_config.specs.Build.{built}
+use Rattle.capnp_text.specs.declared.tree.Field.{Field}
+use Rattle.capnp_text.specs.Lexed.{Every}
+use Rattle.wd_config.specs.Room.{Small}
 use Rattle.wd_config.specs.Scope.{context}
 use Rattle.wd_config.specs.Sound.{SoundFields, SoundItems}
 use Rattle.wd_config.specs.Values.{value_item, item_step, field_step, listed, structured, place_of, as_list, as_struct}
@@ -15,7 +18,8 @@ invariant-listed-loop-first g l = record {
   later : part ReadFile (g.F.Files.faults l.fn.files) ≤ part ReadFile (g.F.Files.faults l.files);
   leads : Leads (listed (value_item l.levels (context l.scope (g.F.Files.told l.fn.files)) l.fn.active) l.label l.kind (place_of l.value) (as_list l.value))
       (along (item_step (value_item l.levels (context l.scope (g.F.Files.told l.fn.files)) l.fn.active) l.label l.kind) l.list l.rest >>= λ made. done made.items);
-  sound : SoundItems l.kind l.list;
+  sound : SoundItems l.kind (length l.rest) l.list;
+  small : Every Small l.rest;
 }
 
 abbrev pub decreases-listed-loop-first : goal.decreases-listed-loop-first
@@ -29,6 +33,7 @@ invariant-structured-loop-first g l = record {
   leads : Leads (structured (value_item l.levels (context l.scope (g.F.Files.told l.fn.files)) l.fn.active) (context l.scope (g.F.Files.told l.fn.files)) l.taken l.label l.kind l.value (as_struct l.value))
       (along (field_step (value_item l.levels (context l.scope (g.F.Files.told l.fn.files)) l.fn.active) l.taken l.kind) l.entries l.rest >>= λ es. given (built l.kind l.place es));
   sound : SoundFields l.taken l.kind l.entries;
+  small : Every (λ (f : Field). Small f.value) l.rest;
 }
 
 abbrev pub decreases-structured-loop-first : goal.decreases-structured-loop-first
