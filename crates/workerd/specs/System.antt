@@ -1,5 +1,5 @@
 -- What the objects over the system tell: no content.
-use Rattle.std.specs.Prelude.{false, [], None}
+use Rattle.std.specs.Prelude.{◌≡◌, ◌⊎◌, true, false, [], None}
 use Rattle.std.specs.Ordering.{nat_cmp}
 use Rattle.std.specs.BTreeMap.{ContainsKey}
 use Rattle.wd_base.specs.declared.ids.LinkNo.{LinkNo}
@@ -21,3 +21,7 @@ port_usable p n = ContainsKey nat_cmp p.links n.0
 -- the same links may be used
 abbrev pub HasSameLinks : {R : Type 0} → SystemPort R → SystemPort R → Type 0
 HasSameLinks p q = (n : LinkNo) → (port_usable p n → port_usable q n) × (port_usable q n → port_usable p n)
+
+-- no further link will come: it was said before, standard input has ended, or the greatest number was given
+abbrev pub MayClose : {R : Type 0} → SystemPort R → Type 0
+MayClose p = (p.closed ≡ true) ⊎ ((p.input.seen ≡ true) ⊎ (p.given ≡ 4294967295))

@@ -31,6 +31,8 @@ pub struct Link {
     ended: bool,
     /// The peer takes no more, or a read or a write had a fault.
     gone: bool,
+    /// Bytes have come since the last write, so a request may be on its way.
+    asked: bool,
 }
 
 impl Link {
@@ -42,6 +44,7 @@ impl Link {
             half_closed: false,
             ended: false,
             gone: false,
+            asked: false,
         }
     }
 
@@ -65,6 +68,11 @@ impl Link {
         self.gone
     }
 
+    /// Nothing is in flight: no byte has come since the last write.
+    pub fn is_quiet(&self) -> bool {
+        !self.asked
+    }
+
     /// Reads what has come; None is an error, and the link is then gone. A link without news is
     /// not asked.
     pub fn read(&mut self, buf: &mut [u8]) -> Option<Got>
@@ -86,6 +94,7 @@ impl Link {
                 // A short read has emptied the socket, and what comes later is news again. The end
                 // is no news once it has been reported.
                 self.ready = count == buf.len() || self.half_closed;
+                self.asked = true;
                 Some(Got::Bytes(count))
             }
             Err(error) => match error.kind() {
@@ -110,6 +119,7 @@ impl Link {
         ensures stays { self.old.gone ≡ true → self.new.gone ≡ true }
     {
         let sent = send(&mut self.stream, patience, bytes);
+        self.asked = false;
         if sent.is_none() {
             self.gone = true;
         }

@@ -3,6 +3,7 @@ ghost use Rattle.std.specs.Prelude.{◌≡◌};
 use crate::port::SystemPort;
 use crate::trouble::blame;
 use std::alloc::{AllocGlobal, Global};
+use std::io::Input;
 use std::net::Net;
 use std::rt::Files as FileSystem;
 use wd_base::Seat;
@@ -24,7 +25,7 @@ impl<R> SystemMaker<R> {
     }
 }
 
-impl<R: FileSystem + AllocGlobal + Net + Copy + Drop + Send> Maker for SystemMaker<R> {
+impl<R: FileSystem + AllocGlobal + Input + Net + Copy + Drop + Send> Maker for SystemMaker<R> {
     ghost use Rattle.std.specs.Prelude.{None};
 
     type Port = SystemPort<R>;

@@ -3,6 +3,7 @@ ghost use Rattle.std.specs.Ordering.{nat_cmp};
 ghost use Rattle.std.specs.BTreeMap.{ContainsKey};
 
 use crate::files::{NO_FAULTS, list_folder, read_file};
+use crate::input::{INPUT, InputEnd};
 use crate::link::{Link, Patience};
 use crate::listener::Listener;
 use crate::trouble::{Trouble, blame};
@@ -11,6 +12,7 @@ use mio::{Events, Interest, Poll, Token};
 use std::alloc::{AllocGlobal, Global};
 use std::collections::BTreeMap;
 use std::fs;
+use std::io::Input;
 use std::net::{IpAddr, Ipv4Addr, Net, SocketAddr};
 use std::rt::Files as FileSystem;
 use std::time::Duration;
@@ -26,10 +28,20 @@ const IDLE: u64 = 50;
 /// How many sockets and links one poll reports at most; the next one reports the others.
 const EVENTS: usize = 1024;
 
+/// How many waits without news come, once standard input has ended, before a link on which nothing
+/// is in flight counts as gone: about three seconds.
+const QUIET_WAITS: u32 = 60;
+
+/// How many such waits come before any link counts as gone: about a minute.
+const LAST_WAITS: u32 = 1200;
+
 /// The token of socket 0. A link's token is its number, which is smaller.
 const FIRST_SOCKET: usize = 1 << 32;
 
 /// A port over the system's sockets. It tells no content.
+///
+/// Once standard input has ended, no further link is accepted, and links on which nothing is in
+/// flight are given up a few seconds later, so that what serves them comes to its end.
 ///
 /// A poll says which sockets and links have news, and the others are not asked: it is made without
 /// waiting in each `accept`, with which a seat begins each of its rounds, and with a wait in `idle`.
@@ -41,6 +53,9 @@ pub struct SystemPort<R> {
     patience: Patience,
     /// `idle` has just polled.
     polled: bool,
+    input: InputEnd,
+    /// How many waits without news there were since standard input ended.
+    waits: u32,
     /// In the order of the sockets' numbers, as the addresses are.
     listeners: Vec<Listener>,
     sockets: Seq<Addr>,
@@ -67,6 +82,7 @@ impl<R> SystemPort<R> {
         ensures none { IfOk result (λ p. p.faults ≡ no_faults) }
     {
         let poll = Poll::new(&rt)?;
+        let input = InputEnd::watch(&poll);
         let patience = Patience {
             poll: Poll::new(&rt)?,
             events: Events::with_capacity(alloc, 1)?,
@@ -78,6 +94,8 @@ impl<R> SystemPort<R> {
             events,
             patience,
             polled: false,
+            input,
+            waits: 0,
             listeners: Vec::new(alloc),
             sockets: Seq::new(alloc),
             first: 0,
@@ -139,6 +157,16 @@ fn note_news(events: &Events, listeners: &mut Vec<Listener>, links: &mut BTreeMa
     }
 }
 
+/// A poll has news of standard input.
+fn has_input(events: &Events) -> bool {
+    for event in events {
+        if event.token() == INPUT {
+            return true;
+        }
+    }
+    false
+}
+
 /// A connection that waits at one of the sockets, and the socket's number.
 fn take_waiting(listeners: &mut Vec<Listener>, first: usize) -> Option<(usize, TcpStream)> {
     let count = listeners.len();
@@ -194,18 +222,41 @@ impl<R> SystemPort<R> {
 
     /// Polls, and notes the news.
     fn look(&mut self, wait: Duration)
+    where
+        R: Input,
         ensures tells { port_told self.new ≡ port_told self.old }
         ensures faults { self.new.faults ≡ self.old.faults }
         ensures links { HasSameLinks self.old self.new }
     {
         if self.poll.poll(&mut self.events, Some(wait)).is_ok() {
             note_news(&self.events, &mut self.listeners, &mut self.links);
+            if has_input(&self.events) {
+                self.input.read(&self.rt, &self.poll);
+            }
         }
+    }
+
+    /// Counts a wait without news, once standard input has ended.
+    fn count_wait(&mut self)
+        ensures tells { port_told self.new ≡ port_told self.old }
+        ensures faults { self.new.faults ≡ self.old.faults }
+        ensures links { HasSameLinks self.old self.new }
+    {
+        if self.input.seen && self.events.is_empty() {
+            self.waits = self.waits.saturating_add(1);
+        }
+    }
+
+    /// The link is given up at the end of serving.
+    fn is_given_up(&self, entry: &Link) -> bool {
+        self.waits >= LAST_WAITS || (self.waits >= QUIET_WAITS && entry.is_quiet())
     }
 
     /// A connection that waits, and the number of its socket. It polls, unless `idle` has just
     /// done so.
     fn waiting(&mut self) -> Option<(SockNo, TcpStream)>
+    where
+        R: Input,
         ensures socket { IfSome result (λ w. w.0.0 < length self.old.sockets) }
         ensures tells { port_told self.new ≡ port_told self.old }
         ensures faults { self.new.faults ≡ self.old.faults }
@@ -280,13 +331,13 @@ impl<R> SystemPort<R> {
 }
 
 #[tactic(auto, unfolding(wd_ports::specs::Told::given_on, wd_ports::specs::Told::received_on, wd_ports::specs::Told::ended_on, wd_ports::specs::Told::sent_on, wd_ports::specs::Told::shut_on))]
-impl<R: FileSystem + AllocGlobal + Net + Clone + Drop> Port for SystemPort<R> {
-    ghost use Rattle.std.specs.Prelude.{◌≡◌, ◌⊎◌, ⊤, true, Ok, IfOk, OnErr};
+impl<R: FileSystem + AllocGlobal + Input + Net + Clone + Drop> Port for SystemPort<R> {
+    ghost use Rattle.std.specs.Prelude.{◌≡◌, ⊤, Ok, IfOk, OnErr};
     ghost use Rattle.wd_ports.specs.declared.told.Accepted.TheVariants as accepted;
     ghost use Rattle.wd_ports.specs.declared.told.Side.TheVariants as side;
     ghost use Rattle.wd_ports.specs.Links.{IsFresh, UsableLink, Keeps, Stays, AddsNone};
     ghost use Rattle.wd_ports.specs.Told.{after_accept};
-    ghost use Rattle.workerd.specs.System.{port_told, port_usable};
+    ghost use Rattle.workerd.specs.System.{MayClose, port_told, port_usable};
 
     fn listen(&mut self, alloc: Global, address: &Addr) -> Result<SockNo, Failed> {
         match self.add_socket(alloc, address) {
@@ -296,7 +347,7 @@ impl<R: FileSystem + AllocGlobal + Net + Clone + Drop> Port for SystemPort<R> {
     }
 
     fn accept(&mut self, _alloc: Global) -> Result<Accepted, NoMemory>
-        ensures closed { result ≡ Ok accepted.Closed → (self.old.closed ≡ true) ⊎ (self.old.given ≡ 4294967295) }
+        ensures closed { result ≡ Ok accepted.Closed → MayClose self.old }
         ensures fresh { IfOk result (λ a. IsFresh a (port_told self.old)) }
         ensures link { IfOk result (λ a. UsableLink a (port_usable self.new) (λ _. side.Accepted)) }
         ensures tells { port_told self.new ≡ after_accept result (port_told self.old) }
@@ -305,7 +356,7 @@ impl<R: FileSystem + AllocGlobal + Net + Clone + Drop> Port for SystemPort<R> {
         ensures stays { Stays (λ _. ⊤) (λ _. ⊤) }
         ensures memory { OnErr result (AddsNone (port_usable self.old) (λ _. side.Accepted) (λ _. ⊤) (port_usable self.new) (λ _. side.Accepted) (λ _. ⊤)) }
     {
-        if self.closed || self.given == u32::MAX {
+        if self.closed || self.input.seen || self.given == u32::MAX {
             self.closed = true;
             return Ok(Accepted::Closed);
         }
@@ -349,7 +400,7 @@ impl<R: FileSystem + AllocGlobal + Net + Clone + Drop> Port for SystemPort<R> {
 
     fn gone(&mut self, link: LinkNo) -> bool {
         match self.links.get(&link.0) {
-            Some(entry) => entry.is_gone(),
+            Some(entry) => entry.is_gone() || self.is_given_up(entry),
             None => true,
         }
     }
@@ -362,6 +413,7 @@ impl<R: FileSystem + AllocGlobal + Net + Clone + Drop> Port for SystemPort<R> {
 
     fn idle(&mut self) {
         self.look(Duration::from_millis(IDLE));
+        self.count_wait();
         self.polled = true;
     }
 
