@@ -50,6 +50,7 @@ command (v ∷ config ∷ option ∷ value ∷ []) = asked (with_threads v optio
 command (v ∷ config ∷ constant ∷ option ∷ value ∷ []) = asked (with_threads v option value) config (Some constant)
 command words = None
 
+-- the command is `serve`, not `check`
 abbrev pub is_serving : Verb → Bool
 is_serving verb.Serve = true
 is_serving verb.Check = false

@@ -31,13 +31,16 @@ constant = record {
   steps = 4;
 }
 
+-- the meaning of an isolate whose Worker answers each request with one fixed text
 abbrev pub constant_means : Meaning Constant
 constant_means = quiet_means constant
 
+-- an option holds a value
 is_there : {X : Type 0} → Option X → Bool
 is_there None = false
 is_there (Some x) = true
 
+-- law: an option without a value is not one with a value
 none_some : {X : Type 0} {x : X} → None ≡ Some x → ⊥
 unfolding is_there
 none_some e = false≢true (ap is_there e)
@@ -47,13 +50,16 @@ record HasText (def : WorkerDef) (names : List (List ℕ)) (s : Constant) : Type
   text : List ℕ
   is : first_constant def names text ≡ s
 
+-- law: the first state of such an isolate has a text, if there is a first state
 has_text : (def : WorkerDef) (names : List (List ℕ)) (s : Constant) (answer : Option (List ℕ)) → option_map (first_constant def names) answer ≡ Some s → HasText def names s
 has_text def names s None e = absurd (none_some e)
 has_text def names s (Some text) e = record { text = text; is = ap (λ o. unwrap_or o s) e }
 
+-- law: the first state of a Worker's isolate has a text
 first_text : (def : WorkerDef) (names : List (List ℕ)) (s : Constant) → constant.start def names ≡ Some s → HasText def names s
 first_text def names s e = has_text def names s (answer_for def) e
 
+-- law: the meaning of a fixed reply keeps all laws that an isolate must keep
 pub constant_lawful : IsLawful constant_means
 constant_lawful = quiet_lawful constant (record {
   first_worker = λ def names s e. sym (ap (λ c. c.worker) (first_text def names s e).is);

@@ -66,6 +66,7 @@ AtFile files asked None plan = plan ≡ Refuses (refusal.MissingFile asked.confi
 AtFile files asked (Some bytes) plan = (r : Read Config) × IsReading (Some files) asked bytes r × AtAnswer asked.verb r.answer plan
 
 -- at the command
+-- (the plan of a parsed command line: refused where there is none; else what its configuration asks for)
 abbrev pub AtCommand : Stored → Option Asked → Plan → Type 0
 AtCommand files None plan = plan ≡ Refuses refusal.CommandLine
 AtCommand files (Some asked) plan = AtFile files asked (file_at files asked.config) plan

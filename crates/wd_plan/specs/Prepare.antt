@@ -62,6 +62,7 @@ abbrev pub plan_of_end : PlanEnd → Option Plan
 plan_of_end (end.Refused why) = plan_of_refusal why
 plan_of_end end.NoMemory = None
 
+-- the plan that an answer stands for; none where a file could not be read or memory ran out
 abbrev pub plan_of : Result Ready PlanEnd → Option Plan
 plan_of (Ok ready) = Some (Starts ready.verb ready.world)
 plan_of (Err e) = plan_of_end e
@@ -71,10 +72,12 @@ abbrev pub OnRefusedFault : Refusal → (List ℕ → Type 0) → Type 0
 OnRefusedFault (refusal.FileFault path) P = P path
 OnRefusedFault _ P = Unit {0}
 
+-- if preparing ended because a file could not be read, this holds of its path
 abbrev pub OnEndFault : PlanEnd → (List ℕ → Type 0) → Type 0
 OnEndFault (end.Refused why) P = OnRefusedFault why P
 OnEndFault end.NoMemory P = Unit {0}
 
+-- if the answer is that a file could not be read, this holds of its path
 abbrev pub OnFault : Result Ready PlanEnd → (List ℕ → Type 0) → Type 0
 OnFault (Ok ready) P = Unit {0}
 OnFault (Err e) P = OnEndFault e P
@@ -93,10 +96,12 @@ abbrev pub IsLateRefusal : Refusal → Type 0
 IsLateRefusal refusal.CommandLine = ⊥
 IsLateRefusal _ = Unit {0}
 
+-- not refused for its command line
 abbrev pub IsLateEnd : PlanEnd → Type 0
 IsLateEnd (end.Refused why) = IsLateRefusal why
 IsLateEnd end.NoMemory = Unit {0}
 
+-- the command line was understood, whatever came of it
 abbrev pub IsLate : Result Ready PlanEnd → Type 0
 IsLate (Ok ready) = Unit {0}
 IsLate (Err e) = IsLateEnd e

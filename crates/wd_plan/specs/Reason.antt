@@ -35,6 +35,7 @@ early_kind ReturnOutside = codes "ReturnOutside"
 early_kind AwaitOutside = codes "AwaitOutside"
 early_kind BreakOutside = codes "BreakOutside"
 
+-- the reason that is printed for a script that is refused, with its offset
 abbrev pub refusal_text : ScriptRefusal → List ℕ
 refusal_text (Grammar fault) = grammar_text fault.kind fault.word fault.place
 refusal_text (Early fault) = placed (early_kind fault.kind) fault.place

@@ -13,6 +13,7 @@ use Rattle.wd_plan.specs.declared.refusal.Refusal.TheVariants as refusal
 use Rattle.wd_plan.specs.Reason.{reason_text}
 
 -- a line end
+-- (LF, which follows every printed text)
 abbrev pub line_end : List ℕ
 line_end = 10 ∷ []
 

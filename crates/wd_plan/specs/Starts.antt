@@ -55,10 +55,12 @@ abbrev pub StartsNext : List Service → List Constant → ℕ → Option Refuse
 StartsNext services isolates n None = Starting services isolates n
 StartsNext services isolates n (Some script) = FirstRefused services (Some script)
 
+-- the Worker's script is an ECMAScript module (ECMA-262, section 16.2)
 abbrev pub is_module : Form → Bool
 is_module form.Module = true
 is_module form.Script = false
 
+-- the list is empty
 abbrev pub has_none : {X : Type 0} → List X → Bool
 has_none [] = true
 has_none (x ∷ xs) = false
