@@ -27,6 +27,7 @@ Sees bytes (seen.Whole r close n) = (n ≤ length bytes) × Reads bytes r close 
 Sees bytes seen.Later = IsUnfinished bytes
 Sees bytes seen.Bad = IsFault bytes 400
 
+-- the phase after a request: closed, if the request asks to close the connection
 abbrev pub phase_after : Bool → Phase
 phase_after true = phase.Closed
 phase_after false = phase.Open
@@ -37,6 +38,7 @@ FeedsOpen bytes (fed.Request r close) new = Reads bytes r close new.queue × (ne
 FeedsOpen bytes fed.Later new = (new.queue ≡ bytes) × (new.phase ≡ phase.Open) × IsUnfinished bytes
 FeedsOpen bytes (fed.Bad code) new = (new.phase ≡ phase.Bad code) × (new.queue ≡ bytes) × IsFault bytes code
 
+-- what bytes that arrive do in each phase; after a close or a bad request, nothing
 abbrev pub FeedsAt : Phase → Conn → List ℕ → Fed → Conn → Type 0
 FeedsAt phase.Open old piece f new = FeedsOpen (old.queue ++ piece) f new
 FeedsAt phase.Closed old piece f new = (f ≡ fed.Later) × (new ≡ old)

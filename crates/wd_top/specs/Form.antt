@@ -50,6 +50,7 @@ pub record Gap : Type 0 where
   pub text : List ℕ
   pub hole : Hole
 
+-- a part of the code's form, as a text and the hole after it
 abbrev pub gap_of : Part → Gap
 gap_of p = record { text = p.text.now; hole = p.hole }
 
@@ -65,6 +66,7 @@ abbrev pub begins_outside : Hole → List ℕ → Bool
 begins_outside hole [] = false
 begins_outside hole (b ∷ bs) = not (in_hole hole b)
 
+-- the text that the form begins with
 abbrev pub first_text : List Gap → List ℕ → List ℕ
 first_text [] end = end
 first_text (g ∷ gs) end = g.text
@@ -87,6 +89,7 @@ pub record IsRun (hole : Hole) (bytes : List ℕ) (n : ℕ) : Type 0 where
   pub inside : fills hole 0 (take n bytes) ≡ true
   pub stops : n < length bytes → allows hole n (slice_index bytes n) ≡ false
 
+-- the bytes begin with the text, are too short to tell, or can never begin with it
 abbrev pub StartsAs : List ℕ → List ℕ → Start → Type 0
 StartsAs text bytes start.Whole = (length text ≤ length bytes) × (take (length text) bytes ≡ text)
 StartsAs text bytes start.Short = (length bytes < length text) × (take (length bytes) text ≡ bytes)
@@ -115,6 +118,7 @@ pub record IsGapAt (g : Gap) (bytes : List ℕ) (n : ℕ) : Type 0 where
 abbrev pub EndsWithin : Gap → List ℕ → Type 0
 EndsWithin g bytes = ((length bytes < length g.text) × (take (length bytes) g.text ≡ bytes)) ⊎ ((h : List ℕ) × (fills g.hole 0 h ≡ true) × (bytes ≡ g.text ++ h))
 
+-- the end of the first text and hole: found, not yet there, or never to come
 abbrev pub IsNext : Gap → List ℕ → Next → Type 0
 IsNext g bytes (next.At n) = IsGapAt g bytes n
 IsNext g bytes next.Short = EndsWithin g bytes
@@ -139,6 +143,7 @@ abbrev pub IsFilled : List Gap → List ℕ → List ℕ → Option (List (List 
 IsFilled gs end bytes None = (holes : List (List ℕ)) → ReadsForm gs end holes bytes [] → ⊥
 IsFilled gs end bytes (Some holes) = ReadsForm gs end holes bytes []
 
+-- whether the bytes are a text of the form; if they are, its holes are added to those before
 abbrev pub FillsBehind : List Gap → List ℕ → List ℕ → Bool → List (List ℕ) → List (List ℕ) → Type 0
 FillsBehind gs end bytes false old new = (holes : List (List ℕ)) → ReadsForm gs end holes bytes [] → ⊥
 FillsBehind gs end bytes true old new = (holes : List (List ℕ)) × (new ≡ old ++ holes) × ReadsForm gs end holes bytes []

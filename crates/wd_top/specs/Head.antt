@@ -64,15 +64,19 @@ pub record MayBecomeHead (bytes : List ℕ) : Type 0 where
 abbrev pub target_gap : Gap
 target_gap = record { text = codes "GET /"; hole = hole.Word }
 
+-- the Host field's name, and the host after it
 abbrev pub host_gap : Gap
 host_gap = record { text = host_label; hole = hole.Host }
 
+-- a colon, and the port after it
 abbrev pub port_gap : Gap
 port_gap = record { text = codes ":"; hole = hole.Port }
 
+-- a head whose Host field has no port
 abbrev pub plain_form : List Gap
 plain_form = target_gap ∷ host_gap ∷ []
 
+-- a head whose Host field has a port
 abbrev pub ported_form : List Gap
 ported_form = target_gap ∷ host_gap ∷ port_gap ∷ []
 
@@ -83,21 +87,25 @@ pub record HasBounded (form : List Gap) (bytes : List ℕ) : Type 0 where
   pub reads : ReadsForm form head_end holes bytes rest
   pub size : length bytes ≤ max_head + length rest
 
+-- with some more bytes, they begin with a text of the form that is no longer than a head may be
 pub record MayBecomeBounded (form : List Gap) (bytes : List ℕ) : Type 0 where
   pub more : List ℕ
   pub has : HasBounded form (bytes ++ more)
 
+-- the first n bytes are a text of the form, and no more than a head may have
 pub record IsBoundedAt (form : List Gap) (bytes : List ℕ) (n : ℕ) : Type 0 where
   pub holes : List (List ℕ)
   pub within : n ≤ length bytes
   pub small : n ≤ max_head
   pub reads : ReadsForm form head_end holes bytes (drop n bytes)
 
+-- where a text of the form ends: at this offset, not yet, or never within a head's bound
 abbrev pub IsBounded : List Gap → List ℕ → HeadAt → Type 0
 IsBounded form bytes (at.Whole n) = IsBoundedAt form bytes n
 IsBounded form bytes at.Later = (HasBounded form bytes → ⊥) × MayBecomeBounded form bytes
 IsBounded form bytes at.Bad = MayBecomeBounded form bytes → ⊥
 
+-- where the request's head ends: at this offset, not yet, or never
 abbrev pub IsHeadAt : List ℕ → HeadAt → Type 0
 IsHeadAt bytes (at.Whole n) = (n ≤ length bytes) × ((h : Head) × ReadsHead bytes h (drop n bytes))
 IsHeadAt bytes at.Later = (HasHead bytes → ⊥) × MayBecomeHead bytes

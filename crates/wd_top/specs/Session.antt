@@ -31,6 +31,7 @@ asked requests = map (λ r. r.0) requests
 abbrev pub arrivals : List Row → List ReqData
 arrivals rows = map (λ row. row.request) rows
 
+-- the reply to each request, where it has one
 abbrev pub replies : List Row → List (Option Reply)
 replies rows = map (λ row. row.reply) rows
 
@@ -39,6 +40,7 @@ abbrev pub AreAt : List ℕ → List Row → Type 0
 AreAt service [] = Unit {0}
 AreAt service (row ∷ rows) = (row.service ≡ service) × AreAt service rows
 
+-- what stands where no socket of the number is configured
 abbrev pub no_socket : Socket
 no_socket = record { name = []; address = record { host = []; port = 0 }; service = [] }
 
@@ -77,6 +79,7 @@ abbrev pub CarriesFrom : List Socket → LinkOrigin → LinkState → Talk → T
 CarriesFrom sockets (AtSocket socket) link t = Carries (service_at sockets socket) link t
 CarriesFrom sockets (Peer ip port) link t = t ≡ no_talk
 
+-- what a connection carries at its end, if a client opened it; nothing is said of one to a peer
 abbrev pub WholeFrom : List Socket → LinkOrigin → LinkState → Talk → Type 0
 WholeFrom sockets (AtSocket socket) link t = IsWhole (service_at sockets socket) link t
 WholeFrom sockets (Peer ip port) link t = Unit {0}
@@ -85,6 +88,7 @@ WholeFrom sockets (Peer ip port) link t = Unit {0}
 abbrev pub link_at : List LinkState → ℕ → LinkState
 link_at links i = slice_index_or links i blank
 
+-- the number of the connection at this index; they count from 1
 abbrev pub number : ℕ → LinkNo
 number i = record { 0 = i + 1 }
 

@@ -67,6 +67,7 @@ pub record Asks (service : List ℕ) (link : LinkState) (t : Talk) (r : ReqData)
   pub reads : Reads rest r close run.conn.queue
   pub phase : close ≡ false → run.conn.phase ≡ phase.Open
 
+-- all requests that were read have their replies, and some unread bytes are left
 abbrev pub Rests : List ℕ → LinkState → Talk → Type 0
 Rests service link t = (rest : List ℕ) × Reading service link t rest false []
 
@@ -92,6 +93,7 @@ SameButConn run run' = (run'.stage ≡ run.stage) × (run'.socket ≡ run.socket
 abbrev pub Stands : (LinkState → LinkState) → Type 0
 Stands change = (link : LinkState) → ((change link).shuts ≡ link.shuts) × ((change link).origin ≡ link.origin)
 
+-- One read from a connection: what it changes there, and what is known of the connection after it.
 pub record Hears (n : LinkNo) (run run' : LinkRun) (heard : Heard) (old new : Told) : Type 0 where
   pub change : LinkState → LinkState
   pub tells : new ≡ on_link n change old
@@ -123,6 +125,7 @@ After end.Over service link t run gone = Carries service link t × ((gone → �
 After end.Full service link t run gone = Carries service link t
 After end.Waits service link t run gone = Carries service link t
 
+-- One answer to what was read: what it changes on the connection, in the journal and in what is known.
 pub record Handles (n : LinkNo) (service : List ℕ) (run run' : LinkRun) (heard : Heard) (e : StepEnd) (old new : Told) (j j' : List Entry) (gone : Type 0) : Type 0 where
   pub change : LinkState → LinkState
   pub tells : new ≡ on_link n change old
@@ -137,6 +140,7 @@ TendedAs Open service run link t gone = (link.shuts ≡ 0) × Opened service lin
 TendedAs Shut service run link t gone = (link.shuts ≡ 1) × Carries service link t × ((gone → ⊥) → IsWhole service link t)
 TendedAs Stopped service run link t gone = Carries service link t
 
+-- One turn of attention to a connection: its entry in the table stays true, and no other is touched.
 pub record Moves (n : LinkNo) (service : List ℕ) (run run' : LinkRun) (old new : Told) (j j' : List Entry) (gone : Type 0) : Type 0 where
   pub change : LinkState → LinkState
   pub tells : new ≡ on_link n change old

@@ -11,6 +11,7 @@ abbrev pub url_of_result : Result Parts ParseError → Option Parts
 url_of_result (Ok url) = Some url
 url_of_result (Err e) = None
 
+-- the URL that a text is, if it is an absolute one (WHATWG URL, section 4.4)
 unfoldable pub url_of : List ℕ → Option Parts
 url_of text = url_of_result (parse_url None text)
 
@@ -23,6 +24,7 @@ UrlOf text (Some url) = IsUtf8 text × (url_of text ≡ Some url)
 abbrev pub url_text : List ℕ → List ℕ → List ℕ
 url_text host target = codes "http://" ++ (host ++ (codes "/" ++ target))
 
+-- the request of a GET for this URL, with its Host field and no body
 abbrev pub request_at : List ℕ → Parts → ReqData
 request_at host url = record { method = codes "GET"; url = serialize url; fields = (codes "host", host) ∷ []; body = None }
 

@@ -24,9 +24,11 @@ addresses sockets = map (λ socket. socket.address) sockets
 abbrev pub new_run : SockNo → LinkRun
 new_run socket = record { socket = socket; conn = record { queue = []; phase = phase.Open }; stage = Open; ready = false }
 
+-- what stands where the table has no entry
 abbrev pub blank_run : LinkRun
 blank_run = new_run (record { 0 = 0 })
 
+-- the table's entry at this index
 abbrev pub run_at : List LinkRun → ℕ → LinkRun
 run_at runs i = slice_index_or runs i blank_run
 
@@ -34,6 +36,7 @@ run_at runs i = slice_index_or runs i blank_run
 abbrev pub IsTended : List Socket → LinkRun → LinkState → Talk → Type 0 → Type 0
 IsTended sockets run link t gone = (link.origin ≡ AtSocket run.socket) × TendedAs run.stage (service_at sockets run.socket) run link t gone
 
+-- the table has one entry for each connection, and what each entry says is true
 abbrev pub AreTended : List Socket → (LinkNo → Type 0) → List Entry → List LinkRun → List LinkState → Type 0
 AreTended sockets gone j runs links = (length links ≡ length runs) × ((i : ℕ) → i < length runs → IsTended sockets (run_at runs i) (link_at links i) (talk 0 (i + 1) j) (gone (number i)))
 
@@ -53,18 +56,22 @@ SameFiles old new = (new.files ≡ old.files) × (new.hosts ≡ old.hosts)
 abbrev pub Kept : Told → Told → Type 0
 Kept old new = (new.sockets ≡ old.sockets) × (new.closed ≡ old.closed) × SameFiles old new
 
+-- every connection of the table has been shut
 abbrev pub AreShut : List LinkRun → Type 0
 AreShut runs = (i : ℕ) → i < length runs → (run_at runs i).stage ≡ Shut
 
+-- the connection has been shut
 abbrev pub is_shut : Stage → Bool
 is_shut Open = false
 is_shut Shut = true
 is_shut Stopped = false
 
+-- the number is in the list
 abbrev pub In : ℕ → List ℕ → Type 0
 In i [] = ⊥
 In i (x ∷ xs) = (x ≡ i) ⊎ In i xs
 
+-- every number of the list is below the bound
 abbrev pub AllBelow : ℕ → List ℕ → Type 0
 AllBelow n [] = Unit {0}
 AllBelow n (x ∷ xs) = (x < n) × AllBelow n xs

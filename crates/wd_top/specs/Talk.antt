@@ -22,6 +22,7 @@ pub record Talk : Type 0 where
   pub rows : List Row
   pub orderly : Bool
 
+-- a connection over which no request has come
 abbrev pub no_talk : Talk
 no_talk = record { rows = []; orderly = true }
 
@@ -30,9 +31,11 @@ abbrev pub answered : List Row → Bool
 answered [] = true
 answered (r ∷ rs) = is_some r.reply && answered rs
 
+-- a request that has no reply yet
 abbrev pub asked_row : Req → List ℕ → ReqData → Row
 asked_row q service request = record { req = q.0; service = service; request = request; reply = None }
 
+-- a request with its reply
 abbrev pub answered_row : Req → List ℕ → ReqData → Reply → Row
 answered_row q service request reply = record { req = q.0; service = service; request = request; reply = Some reply }
 
@@ -45,6 +48,7 @@ abbrev pub with_reply : ℕ → Reply → List Row → List Row
 with_reply q reply [] = []
 with_reply q reply (r ∷ rs) = cond (nat_eq r.req q) (record r { reply = Some reply }) r ∷ with_reply q reply rs
 
+-- a request gets the reply, if there is one
 abbrev pub with_reply_if : ℕ → Option Reply → List Row → List Row
 with_reply_if q None rows = rows
 with_reply_if q (Some reply) rows = with_reply q reply rows
@@ -55,6 +59,7 @@ came_over s n seat (Outside link) = nat_eq seat.0 s && nat_eq link.0 n
 came_over s n seat (Child parent op) = false
 came_over s n seat Caller = false
 
+-- what each entry of the journal adds to what is known of a connection: a request, a reply, or nothing
 abbrev pub talk_step : ℕ → ℕ → Talk → Entry → Talk
 talk_step s n t (Arrive seat q service origin allow request) = cond (came_over s n seat origin) (add_row (asked_row q service request) t) t
 talk_step s n t (Begin seat q) = t
@@ -64,6 +69,7 @@ talk_step s n t (Served seat q reply) = record t { rows = with_reply q.0 reply t
 talk_step s n t (Cancel seat q) = t
 talk_step s n t (Drain seat) = t
 
+-- what is known of a connection after further entries of the journal
 abbrev pub talk_from : ℕ → ℕ → Talk → List Entry → Talk
 talk_from s n t [] = t
 talk_from s n t (e ∷ es) = talk_from s n (talk_step s n t e) es
@@ -92,6 +98,7 @@ NumberedFrom n (Drain seat ∷ es) = NumberedFrom n es
 unfoldable pub IsNumbered : List Entry → Type 0
 IsNumbered journal = NumberedFrom 0 journal
 
+-- how many requests have arrived, where n arrived before these entries
 abbrev pub arrivals_after : ℕ → List Entry → ℕ
 arrivals_after n [] = n
 arrivals_after n (Arrive seat q service origin allow request ∷ es) = arrivals_after (n + 1) es
@@ -106,6 +113,7 @@ arrivals_after n (Drain seat ∷ es) = arrivals_after n es
 unfoldable pub arrival_count : List Entry → ℕ
 arrival_count journal = arrivals_after 0 journal
 
+-- each entry is of the thread with this number
 abbrev pub EachOfSeat : ℕ → List Entry → Type 0
 EachOfSeat s [] = Unit {0}
 EachOfSeat s (e ∷ es) = ((seat_of e).0 ≡ s) × EachOfSeat s es

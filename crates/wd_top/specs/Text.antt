@@ -9,6 +9,7 @@ use Rattle.wd_top.specs.Stream.{Requests}
 unfoldable pub phrase_of : ℕ → List ℕ
 phrase_of status = if nat_le 100 status && nat_lt status 1000 then unwrap_or (reason_phrase status) [] else []
 
+-- the end of a line, CR LF (RFC 9112, section 2.1)
 abbrev pub crlf : List ℕ
 crlf = 13 ∷ 10 ∷ []
 
@@ -33,6 +34,7 @@ kept_line field = if is_own_field field.0 then [] else field_line field
 abbrev pub length_line : ℕ → ℕ → List ℕ
 length_line status size = if status == 204 || status == 304 then [] else codes "content-length: " ++ (decimal (if status == 205 then 0 else size) ++ crlf)
 
+-- the field `connection: close`, if the connection closes after this reply (RFC 9112, section 9.6)
 abbrev pub close_line : Bool → List ℕ
 close_line close = if close then codes "connection: close" ++ crlf else []
 
@@ -40,6 +42,7 @@ close_line close = if close then codes "connection: close" ++ crlf else []
 abbrev pub is_bodiless : ℕ → Bool → Bool
 is_bodiless status head = head || status == 204 || status == 205 || status == 304
 
+-- the body as it is sent: none to HEAD, nor with a status that has none (RFC 9110, sections 6.4.1 and 15.3.6)
 abbrev pub sent_body : Reply → Bool → List ℕ
 sent_body reply head = if is_bodiless reply.status head then [] else reply.body
 
