@@ -225,7 +225,7 @@ arrow_name n =
     ∷ (bracketed_mark (sign p.OpenParen) ∷ bracketed_mark (name_mark n) ∷ bracketed_mark (sign p.Comma) ∷ bracketed_mark (sign p.CloseParen) ∷ [])
     ∷ []
 
--- the parameters of an arrow
+-- the parameters of an arrow in brackets; one alone may stand without them (ECMA-262, section 15.3)
 abbrev pub arrow_parameters : List Name → List Form
 arrow_parameters (n ∷ []) = arrow_name n ∷ []
 arrow_parameters ns = parameters ns

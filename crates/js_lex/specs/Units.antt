@@ -5,6 +5,7 @@ use Rattle.std.specs.Prelude.{ℕ, ◌+◌, ◌-◌, ◌*◌, Bool, cond, not, �
 abbrev pub Text : Type 0
 Text = List ℕ
 
+-- the unit is one of those from `low` to `high`, both among them
 abbrev pub is_between : ℕ → ℕ → ℕ → Bool
 is_between low high u = nat_le low u && nat_le u high
 
