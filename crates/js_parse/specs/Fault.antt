@@ -5,6 +5,7 @@ use Rattle.js_tree.specs.declared.tree.Item.{Item}
 use Rattle.js_parse.specs.declared.reader.ScriptEnd.{ScriptEnd}
 use Rattle.js_parse.specs.declared.reader.ScriptEnd.TheVariants.{Fault, NoMemory}
 
+-- where the answer is a fault, this holds of it
 abbrev pub IfFault : Result (List Item) ScriptEnd → (ScriptFault → Type 0) → Type 0
 IfFault (Err (Fault f)) g = g f
 IfFault _ g = Unit {0}
