@@ -99,7 +99,7 @@ most_safe = 9007199254740991
 abbrev pub most : ℕ
 most = 2 ^ 64 - 1
 
--- the number as digits spell it, or that it is above the greatest safe integer
+-- the digits of this number: itself, or that it is above the greatest safe integer
 abbrev pub fitted : ℕ → Digits
 fitted n = cond (nat_le n most_safe) (digits.Exact n 0) digits.Wide
 

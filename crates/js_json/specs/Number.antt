@@ -73,7 +73,7 @@ is_down _ = false
 abbrev pub up : Number → ℕ
 up n = cond (is_down n.sign) 0 (decimal n.exponent)
 
--- .. and where it is below
+-- the size of the exponent where it is below zero, and 0 where it is not
 abbrev pub down : Number → ℕ
 down n = cond (is_down n.sign) (decimal n.exponent) 0
 

@@ -31,6 +31,7 @@ sign_strength p.Slash = Some 6
 sign_strength p.Percent = Some 6
 sign_strength _ = None
 
+-- how tightly a token binds as an operator between two operands, if it is one (ECMA-262, sections 13.6 to 13.13)
 abbrev pub strength : TokenKind → Option ℕ
 strength (tok.Punctuator s) = sign_strength s
 strength _ = None
