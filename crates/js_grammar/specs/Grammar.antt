@@ -231,6 +231,7 @@ arrow_parameters (n ∷ []) = arrow_name n ∷ []
 arrow_parameters ns = parameters ns
 
 -- the arrow and the body
+-- `=>`, with no line end before it (section 15.3, ArrowFunction)
 abbrev pub arrow_sign : Form
 arrow_sign = one (unbroken (sign p.Arrow))
 

@@ -54,6 +54,7 @@ abbrev pub code_point : Text → Option Letter
 code_point z = let n = past class.Hex z 0 in cond (n == 0 || not (slice_index z n == 125)) None (of_code (n + 3) (numeral 1114111 16 0 (take n z)))
 
 -- UnicodeEscapeSequence
+-- `u` and four digits, or `u{`, the digits of a code point and `}` (section 12.9.4)
 abbrev pub unicode_escape : Text → Option Letter
 unicode_escape z = cond (slice_index z 0 == 123) (code_point (drop 1 z)) (four_digits z)
 

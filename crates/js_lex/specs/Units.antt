@@ -22,6 +22,7 @@ abbrev pub is_digit : ℕ → Bool
 is_digit u = is_between 48 57 u
 
 -- HexDigit
+-- a decimal digit, or one of the letters A to F, small or large
 abbrev pub is_hex : ℕ → Bool
 is_hex u = is_digit u || (is_between 65 70 u || is_between 97 102 u)
 

@@ -275,6 +275,7 @@ faults_of (Unless f ∷ ms) = f ∷ faults_of ms
 faults_of (Faulty f ∷ ms) = f ∷ faults_of ms
 
 -- the early faults of a script
+-- for each of them ECMA-262 refuses the script before any of it runs (section 17)
 abbrev pub early_faults : List Item → List EarlyFault
 early_faults items = faults_of (scope (concat (map of_item items)))
 
