@@ -1,3 +1,5 @@
 pub mod HeadLaws
 pub mod BodyLaws
 pub mod StreamLaws
+pub mod TargetSteps
+pub mod BegunSteps

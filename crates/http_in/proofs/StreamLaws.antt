@@ -81,7 +81,7 @@ refuses_more b m why (inl head) = inl (refused_head_more b m why head)
 refuses_more b m why (inr (inl x)) = inr (inl (record { head = x.head; rest = x.rest ++ m; reads = head_more b x.head x.rest m x.reads; refuses = x.refuses }))
 refuses_more b m why (inr (inr x)) = inr (inr (record { head = x.head; what = x.what; behind = x.behind ++ m; asks = asked_more b x.head x.what x.behind m x.asks; refuses = refused_body_more x.what.1 x.behind m why x.refuses }))
 
-body_at : (b : List ℕ) (why : Refusal) (h : RequestHead) (w : Asked) (behind : List ℕ) → ReadsAsked b h w behind → (x : RefusesBehind b why) → RefusesBody w.1 behind why
+pub body_at : (b : List ℕ) (why : Refusal) (h : RequestHead) (w : Asked) (behind : List ℕ) → ReadsAsked b h w behind → (x : RefusesBehind b why) → RefusesBody w.1 behind why
 body_at b why h w behind asks x =
     let u = asked_unique b h x.head w x.what behind x.behind asks x.asks in
     subst (λ t. RefusesBody w.1 t why) (sym u.left) (subst (λ v. RefusesBody v.1 x.behind why) (sym u.what) x.refuses)
