@@ -3,3 +3,4 @@ pub mod BodyLaws
 pub mod StreamLaws
 pub mod TargetSteps
 pub mod BegunSteps
+pub mod QueueSteps

@@ -1,6 +1,6 @@
 -- The places behind bytes say whether they end within a target.
-use Rattle.std.proofs.Common.{◌≡◌, ◌≢◌, ℕ, ◌+◌, ◌<◌, ◌==◌, Bool, true, false, cond, List, [], ◌∷◌, ◌++◌, length, refl, sym, ap, ◌∙◌, subst, arith, append_assoc, eqb-eq}
-use Rattle.std.proofs.lemmas.Bool.{false≢true, ne_eqb}
+use Rattle.std.proofs.Common.{◌≡◌, ◌≢◌, ℕ, ◌+◌, ◌<◌, ◌==◌, Bool, true, false, cond, List, [], ◌∷◌, ◌++◌, length, refl, sym, ap, ◌∙◌, subst, arith, append_assoc}
+use Rattle.std.proofs.lemmas.Bool.{false≢true, ne_eqb, eqb-true}
 use Rattle.std.proofs.lemmas.List.Elements.{All-head, All-tail, All-cons, All-nil}
 use Rattle.httparse.specs.Grammar.{LineEnd, crlf, lf, print_end, print_blank, AllPass, is_uri_byte, is_token_byte, IsToken, EndsInTarget}
 use Rattle.httparse.proofs.PieceLemmas.{space_ends_token}
@@ -64,7 +64,7 @@ token_cases b t true e more h =
 token_cases b t false e more h = absurd (other_stays t h)
 
 space_cases : (b : ℕ) (t : List ℕ) (c : Bool) → (b == 32) ≡ c → (place_after place.Method t ≡ place.Target → IsMethodAndTarget t) → place_after (cond c place.Target (in_method b)) t ≡ place.Target → IsMethodAndTarget (b ∷ t)
-space_cases b t true e more h = record { method = []; target = t; token = All-nil (λ v. is_token_byte v ≡ true); uri = target_back t h; is = ap (λ z. z ∷ t) (eqb-eq b 32 e) }
+space_cases b t true e more h = record { method = []; target = t; token = All-nil (λ v. is_token_byte v ≡ true); uri = target_back t h; is = ap (λ z. z ∷ t) (eqb-true b 32 e) }
 space_cases b t false e more h = token_cases b t (is_token_byte b) refl more h
 
 method_back : (t : List ℕ) → place_after place.Method t ≡ place.Target → IsMethodAndTarget t
@@ -81,11 +81,11 @@ blank_more : (end : LineEnd) (t : List ℕ) → EndsInTarget t → EndsInTarget 
 blank_more end t (blank, method, target, tok, uri, e) = (end ∷ blank, method, target, tok, uri, ap (λ z. print_end end ++ z) e ∙ sym (append_assoc (print_end end) (print_blank blank) (method ++ 32 ∷ target)))
 
 lf_cases : (b : ℕ) (t : List ℕ) (c : Bool) → (b == 10) ≡ c → (place_after place.Start t ≡ place.Target → EndsInTarget t) → place_after (cond c place.Start (in_method b)) t ≡ place.Target → EndsInTarget (b ∷ t)
-lf_cases b t true e more h = subst (λ z. EndsInTarget (z ∷ t)) (sym (eqb-eq b 10 e)) (blank_more lf t (more h))
+lf_cases b t true e more h = subst (λ z. EndsInTarget (z ∷ t)) (sym (eqb-true b 10 e)) (blank_more lf t (more h))
 lf_cases b t false e more h = begin_cases b t (is_token_byte b) refl h
 
 crlf_cases : (b c : ℕ) (t : List ℕ) (d : Bool) → b ≡ 13 → (c == 10) ≡ d → (place_after place.Start t ≡ place.Target → EndsInTarget t) → place_after (cond d place.Start place.Other) t ≡ place.Target → EndsInTarget (b ∷ c ∷ t)
-crlf_cases b c t true is e more h = subst (λ z. EndsInTarget (z ∷ c ∷ t)) (sym is) (subst (λ z. EndsInTarget (13 ∷ z ∷ t)) (sym (eqb-eq c 10 e)) (blank_more crlf t (more h)))
+crlf_cases b c t true is e more h = subst (λ z. EndsInTarget (z ∷ c ∷ t)) (sym is) (subst (λ z. EndsInTarget (13 ∷ z ∷ t)) (sym (eqb-true c 10 e)) (blank_more crlf t (more h)))
 crlf_cases b c t false is e more h = absurd (other_stays t h)
 
 cr_one : (b : ℕ) (c : Bool) → (b == 13) ≡ c → place_after (cond c place.Cr (cond (b == 10) place.Start (in_method b))) [] ≡ place.Target → EndsInTarget (b ∷ [])
@@ -94,7 +94,7 @@ cr_one b false e h = lf_cases b [] (b == 10) refl (λ x. cc) h
 
 cr_cases : (b c : ℕ) (t : List ℕ) (d : Bool) → (b == 13) ≡ d → (place_after place.Start t ≡ place.Target → EndsInTarget t) → (place_after place.Start (c ∷ t) ≡ place.Target → EndsInTarget (c ∷ t))
     → place_after (cond d place.Cr (cond (b == 10) place.Start (in_method b))) (c ∷ t) ≡ place.Target → EndsInTarget (b ∷ c ∷ t)
-cr_cases b c t true e behind next h = crlf_cases b c t (c == 10) (eqb-eq b 13 e) refl behind h
+cr_cases b c t true e behind next h = crlf_cases b c t (c == 10) (eqb-true b 13 e) refl behind h
 cr_cases b c t false e behind next h = lf_cases b (c ∷ t) (b == 10) refl next h
 
 pub ends_from_place : (t : List ℕ) → place_after place.Start t ≡ place.Target → EndsInTarget t
