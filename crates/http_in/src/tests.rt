@@ -121,15 +121,15 @@ fn head(alloc: Global, fields: usize, more: usize) -> Result<Vec<u8>, NoMemory> 
     Ok(bytes)
 }
 
-// A head without other fields has 32 bytes beside those of the last value.
+// A head without further fields has 31 bytes beside those of the last value.
 #[test]
 fn heads_are_limited(rt: HostRuntime) -> Result<(), Fail> {
     let rows = [
         (62, 0, 1, None),
         (63, 0, 0, Some(413)),
-        (5400, 0, 0, Some(413)),
-        (0, 16_352, 1, None),
-        (0, 16_353, 0, Some(413)),
+        (4_000, 0, 0, Some(413)),
+        (0, 16_353, 1, None),
+        (0, 16_354, 0, Some(413)),
     ];
     for (fields, more, count, fault) in rows {
         let bytes = head(rt.alloc(), fields, more)?;
