@@ -4,3 +4,4 @@ pub mod StreamLaws
 pub mod TargetSteps
 pub mod BegunSteps
 pub mod QueueSteps
+pub mod HeadSteps

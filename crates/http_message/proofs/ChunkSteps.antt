@@ -6,7 +6,7 @@ use Rattle.http_message.specs.declared.extent.Refusal.{Refusal}
 use Rattle.http_message.specs.declared.extent.Refusal.TheVariants as refusal
 use Rattle.http_message.specs.declared.chunks.ChunkReader.{ChunkReader}
 use Rattle.http_message.specs.Limits.{max_body}
-use Rattle.http_message.specs.Chunks.{ReadsSize, ReadsChunk, ReadsChunks, ReadsParts, ReadsLast, ReadsChunked, RefusesNext, RefusesChunked, IsUnfinished}
+use Rattle.http_message.specs.Chunks.{ReadsSize, ReadsChunk, ReadsChunks, ReadsParts, ReadsLast, ReadsChunked, RefusesNext, RefusesChunked, NeverEnds, IsUnfinished}
 use Rattle.http_message.specs.Steps.{IsReading, ShowsNothing}
 use Rattle.http_message.proofs.ChunkLaws.{Stops, parts_unique, parts_more, size_unique, refused_stops}
 
@@ -75,3 +75,17 @@ refused b reader why (h, x) r = record { body = reader.body; behind = drop reade
 
 pub whole : (b : List ℕ) (reader : ChunkReader) (rest : List ℕ) → IsReading b reader → ReadsLast (drop reader.at b) rest → ReadsChunked b reader.body rest
 whole b reader rest (h, x) l = record { behind = drop reader.at b; parts = x; last = l }
+
+-- ---- the end of a chunk
+
+first_other : (b : ℕ) (t : List ℕ) → (b ≡ 13 → ⊥) → NeverEnds (b ∷ t)
+first_other b t n more rest e = n (cc)
+
+second_other : (b : ℕ) (t : List ℕ) → (b ≡ 10 → ⊥) → NeverEnds (13 ∷ b ∷ t)
+second_other b t n more rest e = n (cc)
+
+pub never_ends : (tail : List ℕ) (b : ℕ) (t : List ℕ) → tail ≡ b ∷ t → (b ≡ 13 → ⊥) → NeverEnds tail
+never_ends tail b t is n = subst NeverEnds (sym is) (first_other b t n)
+
+pub never_ends_late : (tail : List ℕ) (b : ℕ) (t : List ℕ) → tail ≡ 13 ∷ b ∷ t → (b ≡ 10 → ⊥) → NeverEnds tail
+never_ends_late tail b t is n = subst NeverEnds (sym is) (second_other b t n)
