@@ -64,7 +64,7 @@ impl Queue {
 
     /// Adds bytes behind. Those that were taken are thrown away once they are the greater part, so
     /// each byte is moved a bounded number of times.
-    #[tactic(auto, using(crate::proofs::HeadSteps::drop_join))]
+    #[tactic(auto, using(crate::proofs::QueueSteps::drop_join))]
     pub fn extend(&mut self, alloc: Global, more: &[u8]) -> Result<(), NoMemory>
         ensures ok { OnOk result (self.new ≡ self.old ++ more.now) }
         ensures err { OnErr result (self.new ≡ self.old) }

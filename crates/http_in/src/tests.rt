@@ -83,3 +83,58 @@ fn refusals_come_in_their_order(rt: HostRuntime) -> Result<(), Fail> {
     }
     Ok(())
 }
+
+const WHOLE: &[u8] = b"POST /a HTTP/1.1\r\nHost: b\r\nX-Y: Z\r\nTransfer-Encoding: chunked\r\n\r\n2\r\ncd\r\n0\r\n\r\n";
+
+#[test]
+fn a_request_may_be_cut_anywhere(rt: HostRuntime) -> Result<(), Fail> {
+    for cut in 0..WHOLE.len() {
+        let mut conn = Conn::new(rt.alloc());
+        let first = conn.feed(rt.alloc(), &WHOLE[..cut])?;
+        assert!(&rt; matches!(first, Fed::Later), "at {cut}");
+        match conn.feed(rt.alloc(), &WHOLE[cut..])? {
+            Fed::Request(request, close) => {
+                assert!(&rt; !close);
+                assert!(&rt; request.method.as_slice() == b"POST");
+                assert!(&rt; request.url.as_slice() == b"http://b/a");
+                assert!(&rt; request.fields.len() == 3);
+                assert!(&rt; request.fields.get(1).is_some_and(|f| f.0.as_slice() == b"x-y" && f.1.as_slice() == b"Z"));
+                assert!(&rt; request.body.is_some_and(|b| b.as_slice() == b"cd"));
+            }
+            _ => assert!(&rt; false, "at {cut}"),
+        }
+    }
+    Ok(())
+}
+
+/// A head with so many fields beside Host, and `more` bytes in the last one.
+fn head(alloc: Global, fields: usize, more: usize) -> Result<Vec<u8>, NoMemory> {
+    let mut bytes = Vec::from_slice(alloc, b"GET / HTTP/1.1\r\nHost: a\r\n")?;
+    for _ in 0..fields {
+        bytes.extend_from_slice(b"b:\r\n")?;
+    }
+    bytes.extend_from_slice(b"c:")?;
+    for _ in 0..more {
+        bytes.extend_from_slice(b"d")?;
+    }
+    bytes.extend_from_slice(b"\r\n\r\n")?;
+    Ok(bytes)
+}
+
+// A head without further fields has 31 bytes beside those of the last value.
+#[test]
+fn heads_are_limited(rt: HostRuntime) -> Result<(), Fail> {
+    let rows = [
+        (62, 0, 1, None),
+        (63, 0, 0, Some(413)),
+        (4_000, 0, 0, Some(413)),
+        (0, 16_353, 1, None),
+        (0, 16_354, 0, Some(413)),
+    ];
+    for (fields, more, count, fault) in rows {
+        let bytes = head(rt.alloc(), fields, more)?;
+        let found = shown(rt.alloc(), bytes.as_slice())?;
+        assert_eq!(rt; found, (count, fault));
+    }
+    Ok(())
+}
