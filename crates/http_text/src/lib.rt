@@ -9,6 +9,8 @@ mod fields;
 mod phrases;
 mod reply;
 mod request;
+#[cfg(test)]
+mod tests;
 
 pub use phrases::{bad_reply, phrase};
 pub use reply::reply_text;
