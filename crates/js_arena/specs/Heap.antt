@@ -1,0 +1,118 @@
+-- A script's heap, and each change of it.
+use Rattle.std.specs.Prelude.{◌≡◌, ℕ, ◌+◌, ◌-◌, ◌*◌, ◌≤◌, ◌<◌, ◌==◌, ◌&&◌, ◌||◌, Bool, true, false, List, [], ◌∷◌, ◌++◌, length, Option, Some, None, Result, Ok, Err, nat_le, slice_get, slice_set, if◌then◌else◌}
+use Rattle.std.specs.List.{list_any, repeat}
+use Rattle.wd_base.specs.declared.ids.Req.{Req}
+use Rattle.wd_base.specs.declared.ids.Obj.{Obj}
+use Rattle.js_arena.specs.declared.value.CellNo.{CellNo}
+use Rattle.js_arena.specs.declared.value.HandleName.{HandleName}
+use Rattle.js_arena.specs.declared.value.Value.{Value}
+use Rattle.js_arena.specs.declared.value.Value.TheVariants as value
+use Rattle.js_arena.specs.declared.value.Cell.{Cell}
+use Rattle.js_arena.specs.declared.value.Cell.TheVariants.{Text, Variable, Object, Array, Function, Activation, Error, Buffer}
+use Rattle.js_arena.specs.declared.value.ArenaEnd.{ArenaEnd}
+use Rattle.js_arena.specs.declared.value.ArenaEnd.TheVariants.{Full, NoMemory}
+use Rattle.js_arena.specs.declared.value.OpEnd.{OpEnd}
+use Rattle.js_arena.specs.declared.value.OpEnd.TheVariants as op
+use Rattle.js_arena.specs.Props.{Properties, put_prop}
+use Rattle.js_arena.specs.Units.{units}
+
+-- the cells by their numbers, the script's texts, the names of handles by their numbers, the units that were taken, and the most that may be
+pub record Heap : Type 0 where
+  pub cells : List Cell
+  pub texts : List (List ℕ)
+  pub handles : List HandleName
+  pub taken : ℕ
+  pub limit : ℕ
+
+-- whether n more units stay within the limit
+abbrev pub fits : Heap → ℕ → Bool
+fits h n = nat_le (h.taken + n) h.limit
+
+-- n units are taken and the change is made; Full comes exactly where they do not fit, and the heap is as it was then and after NoMemory
+abbrev pub Adds : {A : Type 0} → Heap → ℕ → (A → Type 0) → Heap → Result A ArenaEnd → Type 0
+Adds old n done new (Ok x) = (fits old n ≡ true) × done x
+Adds old n done new (Err Full) = (fits old n ≡ false) × (new ≡ old)
+Adds old n done new (Err NoMemory) = new ≡ old
+
+abbrev pub cell_at : Heap → CellNo → Option Cell
+cell_at h at = slice_get h.cells at.0
+
+-- the heap with these cells behind its own, for n units
+abbrev pub with_cells : List Cell → ℕ → Heap → Heap
+with_cells more n h = record h { cells = h.cells ++ more; taken = h.taken + n }
+
+abbrev pub with_cell : Cell → Heap → Heap
+with_cell cell h = with_cells (cell ∷ []) (units cell) h
+
+-- the heap with n more variables that are not initialised
+abbrev pub with_variables : ℕ → Heap → Heap
+with_variables n h = with_cells (repeat n (Variable None ∷ [])) (2 * n) h
+
+-- the heap with another cell under this number, for n units
+abbrev pub with_change : CellNo → Cell → ℕ → Heap → Heap
+with_change at cell n h = record h { cells = slice_set h.cells at.0 cell; taken = h.taken + n }
+
+abbrev pub is_variable : Option Cell → Bool
+is_variable (Some (Variable v)) = true
+is_variable _ = false
+
+abbrev pub is_object : Option Cell → Bool
+is_object (Some (Object props)) = true
+is_object _ = false
+
+abbrev pub is_array : Option Cell → Bool
+is_array (Some (Array items)) = true
+is_array _ = false
+
+abbrev pub props_of : Option Cell → Properties
+props_of (Some (Object props)) = props
+props_of _ = []
+
+abbrev pub items_of : Option Cell → List Value
+items_of (Some (Array items)) = items
+items_of _ = []
+
+abbrev pub text_in : Option Cell → Option (List ℕ)
+text_in (Some (Text t)) = Some t
+text_in _ = None
+
+-- the units of a string; no other value has any
+abbrev pub text_of : Value → Heap → Option (List ℕ)
+text_of (value.Literal k) h = slice_get h.texts k
+text_of (value.Text at) h = text_in (cell_at h at)
+text_of _ h = None
+
+-- the name of a handle is that of the object, and that of an event names object 0 of its request as well
+abbrev pub names : Req → Obj → HandleName → Bool
+names req obj name = (name.req == req.0) && ((name.obj == obj.0) || (name.event && (obj.0 == 0)))
+
+abbrev pub named : Req → Obj → Option HandleName → Bool
+named req obj (Some name) = names req obj name
+named req obj None = false
+
+abbrev pub value_holds : List HandleName → Req → Obj → Value → Bool
+value_holds handles req obj (value.Handle n) = named req obj (slice_get handles n.0)
+value_holds handles req obj _ = false
+
+abbrev pub variable_holds : List HandleName → Req → Obj → Option Value → Bool
+variable_holds handles req obj (Some v) = value_holds handles req obj v
+variable_holds handles req obj None = false
+
+abbrev pub cell_holds : List HandleName → Req → Obj → Cell → Bool
+cell_holds handles req obj (Text t) = false
+cell_holds handles req obj (Variable v) = variable_holds handles req obj v
+cell_holds handles req obj (Object props) = list_any (λ p. value_holds handles req obj p.1) props
+cell_holds handles req obj (Array items) = list_any (value_holds handles req obj) items
+cell_holds handles req obj (Function n) = false
+cell_holds handles req obj Activation = false
+cell_holds handles req obj (Error kind msg) = false
+cell_holds handles req obj (Buffer bytes) = false
+
+-- a cell holds a handle of this object
+abbrev pub heap_holds : Req → Obj → Heap → Bool
+heap_holds req obj h = list_any (cell_holds h.handles req obj) h.cells
+
+-- the end of an operation that one of the heap gave
+abbrev pub op_end : ArenaEnd → OpEnd
+op_end Full = op.Full
+op_end NoMemory = op.NoMemory

@@ -1,0 +1,5 @@
+pub mod Heap
+pub mod Keys
+pub mod Pairs
+pub mod Props
+pub mod Units

@@ -1,0 +1,92 @@
+ghost use Rattle.std.specs.Prelude.{◌≡◌, [], ◌∷◌, ◌++◌, length, OnOk, OnErr, IfOk, Option, true, is_some};
+ghost use Rattle.js_arena.specs.Props.{get_prop, put_prop, has_prop};
+ghost use Rattle.js_arena.specs.Keys.{own_keys};
+
+use crate::value::Value;
+use indexmap::IndexMap;
+use std::alloc::Global;
+use std::marker::Model;
+use wd_base::{NoMemory, Units};
+
+/// A short text in one word, as the name in a message.
+#[derive(Debug, Drop)]
+pub struct ShortText {
+    units: Box<Units>,
+}
+
+impl Model for ShortText {
+    ghost use Rattle.std.specs.Prelude.{ℕ, List};
+    ghost use Rattle.std.specs.Coded.{coded_ℕ, coded_list};
+
+    ghost Value = { List ℕ };
+
+    ghost coded = { coded_list coded_ℕ };
+
+    ghost view = { λ t. t.units.value };
+}
+
+impl ShortText {
+    /// The text of these units.
+    pub fn new(alloc: Global, units: Units) -> Result<ShortText, NoMemory>
+        ensures { IfOk result (λ t. t ≡ units) }
+    {
+        let units = Box::new(alloc, units)?;
+        Ok(ShortText { units })
+    }
+
+    /// The units.
+    pub fn units(&self) -> &[u16]
+        ensures { result.now ≡ self.now }
+    {
+        self.units.as_slice()
+    }
+}
+
+/// The own properties of an object. Contracts see pairs of a key and a value, in order of creation.
+/// A property is found by the hash of its key.
+#[derive(Drop)]
+pub struct Props {
+    map: Box<IndexMap<Vec<u16>, Value>>,
+}
+
+impl Model for Props {
+    ghost use Rattle.std.specs.Prelude.{ℕ, List};
+    ghost use Rattle.js_arena.specs.declared.value.Value.{Value as ScriptValue};
+    ghost use Rattle.js_arena.specs.Pairs.{pairs_of};
+
+    ghost Value = { List (List ℕ × ScriptValue) };
+
+    ghost view = { λ p. pairs_of p.map.value.entries };
+}
+
+impl Props {
+    /// No property yet.
+    pub fn new(alloc: Global) -> Result<Props, NoMemory>
+        ensures { IfOk result (λ props. props ≡ []) }
+    {
+        let map = Box::new(alloc, IndexMap::new(alloc))?;
+        Ok(Props { map })
+    }
+
+    /// How many properties there are.
+    pub fn len(&self) -> usize
+        ensures { result ≡ length self.now }
+    {
+        self.map.len()
+    }
+
+    /// The value of the property with this key.
+    pub fn get(&self, key: &[u16]) -> Option<Value>
+        ensures { result ≡ get_prop key.now self.now }
+    {
+        self.map.get(key).copied()
+    }
+
+    /// Writes a property: one that is there keeps its place, and a new one goes last.
+    pub fn put(&mut self, key: Units, value: Value) -> Result<(), NoMemory>
+        ensures ok { OnOk result (self.new ≡ put_prop key value self.old) }
+        ensures err { OnErr result (self.new ≡ self.old) }
+    {
+        put_entry(&mut self.map, key, value)
+    }
+}
