@@ -1,5 +1,5 @@
 -- A script's heap, and each change of it.
-use Rattle.std.specs.Prelude.{◌≡◌, ℕ, ◌+◌, ◌-◌, ◌*◌, ◌≤◌, ◌<◌, ◌==◌, ◌&&◌, ◌||◌, Bool, true, false, List, [], ◌∷◌, ◌++◌, length, Option, Some, None, Result, Ok, Err, nat_le, slice_get, slice_set, if◌then◌else◌}
+use Rattle.std.specs.Prelude.{◌≡◌, ℕ, ◌+◌, ◌-◌, ◌*◌, ◌≤◌, ◌<◌, ◌==◌, ◌&&◌, ◌||◌, Bool, true, false, List, [], ◌∷◌, ◌++◌, length, take, Option, Some, None, Result, Ok, Err, nat_le, slice_get, slice_set, if◌then◌else◌}
 use Rattle.std.specs.List.{list_any, repeat}
 use Rattle.wd_base.specs.declared.ids.Req.{Req}
 use Rattle.wd_base.specs.declared.ids.Obj.{Obj}
@@ -13,8 +13,12 @@ use Rattle.js_arena.specs.declared.value.ArenaEnd.{ArenaEnd}
 use Rattle.js_arena.specs.declared.value.ArenaEnd.TheVariants.{Full, NoMemory}
 use Rattle.js_arena.specs.declared.value.OpEnd.{OpEnd}
 use Rattle.js_arena.specs.declared.value.OpEnd.TheVariants as op
-use Rattle.js_arena.specs.Props.{Properties, put_prop}
+use Rattle.js_arena.specs.Props.{Properties, put_prop, put_units}
 use Rattle.js_arena.specs.Units.{units}
+
+-- the items but the last
+abbrev pub without_end : List Value → List Value
+without_end items = take (length items - 1) items
 
 -- the cells by their numbers, the script's texts, the names of handles by their numbers, the units that were taken, and the most that may be
 pub record Heap : Type 0 where
@@ -48,9 +52,13 @@ with_cell cell h = with_cells (cell ∷ []) (units cell) h
 abbrev pub with_variables : ℕ → Heap → Heap
 with_variables n h = with_cells (repeat n (Variable None ∷ [])) (2 * n) h
 
+-- the heap with another cell under this number
+abbrev pub with_other : CellNo → Cell → Heap → Heap
+with_other at cell h = record h { cells = slice_set h.cells at.0 cell }
+
 -- the heap with another cell under this number, for n units
-abbrev pub with_change : CellNo → Cell → ℕ → Heap → Heap
-with_change at cell n h = record h { cells = slice_set h.cells at.0 cell; taken = h.taken + n }
+abbrev pub with_grown : CellNo → Cell → ℕ → Heap → Heap
+with_grown at cell n h = record h { cells = slice_set h.cells at.0 cell; taken = h.taken + n }
 
 abbrev pub is_variable : Option Cell → Bool
 is_variable (Some (Variable v)) = true
@@ -75,6 +83,46 @@ items_of _ = []
 abbrev pub text_in : Option Cell → Option (List ℕ)
 text_in (Some (Text t)) = Some t
 text_in _ = None
+
+-- the variable has this value
+abbrev pub with_value : CellNo → Value → Heap → Heap
+with_value at v h = with_other at (Variable (Some v)) h
+
+-- the units that a write of this key to the object takes
+abbrev pub prop_units : CellNo → List ℕ → Heap → ℕ
+prop_units at key h = put_units key (props_of (cell_at h at))
+
+-- the object has this value under the key
+abbrev pub with_prop : CellNo → List ℕ → Value → Heap → Heap
+with_prop at key v h = with_grown at (Object (put_prop key v (props_of (cell_at h at)))) (prop_units at key h) h
+
+-- the array has one more item at its end
+abbrev pub with_item : CellNo → Value → Heap → Heap
+with_item at v h = with_grown at (Array (items_of (cell_at h at) ++ v ∷ [])) 2 h
+
+-- the array has another item at this index
+abbrev pub with_item_at : CellNo → ℕ → Value → Heap → Heap
+with_item_at at i v h = with_other at (Array (slice_set (items_of (cell_at h at)) i v)) h
+
+-- the array without its last item; its units are not given back
+abbrev pub without_last : CellNo → Heap → Heap
+without_last at h = with_other at (Array (without_end (items_of (cell_at h at)))) h
+
+abbrev pub same_kind : Option Cell → Cell → Bool
+same_kind (Some (Text t)) (Text u) = true
+same_kind (Some (Variable v)) (Variable w) = true
+same_kind (Some (Object p)) (Object q) = true
+same_kind (Some (Array a)) (Array b) = true
+same_kind (Some (Function n)) (Function m) = true
+same_kind (Some Activation) Activation = true
+same_kind (Some (Error k m)) (Error l n) = true
+same_kind (Some (Buffer a)) (Buffer b) = true
+same_kind _ _ = false
+
+-- the units by which the new cell passes the old one
+abbrev pub more_units : Option Cell → Cell → ℕ
+more_units (Some old) cell = units cell - units old
+more_units None cell = units cell
 
 -- the units of a string; no other value has any
 abbrev pub text_of : Value → Heap → Option (List ℕ)

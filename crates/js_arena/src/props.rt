@@ -1,12 +1,12 @@
 ghost use Rattle.std.specs.Prelude.{◌≡◌, [], ◌∷◌, ◌++◌, length, OnOk, OnErr, IfOk, Option, true, is_some};
 ghost use Rattle.js_arena.specs.Props.{get_prop, put_prop, has_prop};
-ghost use Rattle.js_arena.specs.Keys.{own_keys};
+ghost use Rattle.js_arena.specs.Pairs.{pairs_of};
 
 use crate::value::Value;
 use indexmap::IndexMap;
 use std::alloc::Global;
 use std::marker::Model;
-use wd_base::{NoMemory, Units};
+use wd_base::{NoMemory, Seq, Units};
 
 /// A short text in one word, as the name in a message.
 #[derive(Debug, Drop)]
@@ -30,8 +30,10 @@ impl ShortText {
     pub fn new(alloc: Global, units: Units) -> Result<ShortText, NoMemory>
         ensures { IfOk result (λ t. t ≡ units) }
     {
-        let units = Box::new(alloc, units)?;
-        Ok(ShortText { units })
+        match Box::new(alloc, units) {
+            Ok(units) => Ok(ShortText { units }),
+            Err(_) => Err(NoMemory),
+        }
     }
 
     /// The units.
@@ -64,8 +66,10 @@ impl Props {
     pub fn new(alloc: Global) -> Result<Props, NoMemory>
         ensures { IfOk result (λ props. props ≡ []) }
     {
-        let map = Box::new(alloc, IndexMap::new(alloc))?;
-        Ok(Props { map })
+        match Box::new(alloc, IndexMap::new(alloc)) {
+            Ok(map) => Ok(Props { map }),
+            Err(_) => Err(NoMemory),
+        }
     }
 
     /// How many properties there are.
@@ -82,11 +86,37 @@ impl Props {
         self.map.get(key).copied()
     }
 
+    /// There is a property with this key.
+    pub fn has(&self, key: &[u16]) -> bool
+        ensures { result ≡ has_prop key.now self.now }
+    {
+        self.get(key).is_some()
+    }
+
     /// Writes a property: one that is there keeps its place, and a new one goes last.
     pub fn put(&mut self, key: Units, value: Value) -> Result<(), NoMemory>
         ensures ok { OnOk result (self.new ≡ put_prop key value self.old) }
         ensures err { OnErr result (self.new ≡ self.old) }
     {
-        put_entry(&mut self.map, key, value)
+        put_entry(&mut self.map, key.into_vec(), value)
+    }
+
+    /// Writes a property as `put` does, and copies its key only where it is new.
+    pub fn write(&mut self, alloc: Global, key: &[u16], value: Value) -> Result<(), NoMemory>
+        ensures ok { OnOk result (self.new ≡ put_prop key.now value self.old) }
+        ensures err { OnErr result (self.new ≡ self.old) }
+    {
+        let copy = Seq::copy(alloc, key)?;
+        self.put(copy, value)
+    }
+}
+
+fn put_entry(map: &mut IndexMap<Vec<u16>, Value>, key: Vec<u16>, value: Value) -> Result<(), NoMemory>
+    ensures ok { OnOk result (pairs_of map.new.entries ≡ put_prop key.items value (pairs_of map.old.entries)) }
+    ensures err { OnErr result (map.new.entries ≡ map.old.entries) }
+{
+    match map.insert(key, value) {
+        Ok(_) => Ok(()),
+        Err(_) => Err(NoMemory),
     }
 }

@@ -115,7 +115,7 @@ pub enum Value {
 }
 
 /// A cell of the heap.
-#[derive(Debug, Drop)]
+#[derive(Drop)]
 pub enum Cell {
     /// A string that was made at run time.
     Text(Units),
