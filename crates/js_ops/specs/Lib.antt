@@ -1,0 +1,5 @@
+pub mod Compare
+pub mod Convert
+pub mod Numbers
+pub mod Operators
+pub mod Ops
