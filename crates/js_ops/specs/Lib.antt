@@ -1,3 +1,4 @@
+pub mod Capped
 pub mod Compare
 pub mod Convert
 pub mod Numbers

@@ -2,6 +2,8 @@
 use Rattle.std.specs.Prelude.{ℕ, ℤ, pos, neg_ℤ, ◌+ℤ◌, ◌-ℤ◌, ◌*ℤ◌, int_le, int_div, int_rem, Bool, ◌&&◌, if◌then◌else◌, Result, Ok, Err}
 use Rattle.std.specs.Ordering.{int_eq}
 use Rattle.js_ops.specs.declared.kinds.Fault.{Fault}
+use Rattle.js_ops.specs.declared.kinds.NumberOp.{NumberOp}
+use Rattle.js_ops.specs.declared.kinds.NumberOp.TheVariants as op
 use Rattle.js_ops.specs.declared.kinds.Fault.TheVariants.{NotSafe, DivisionByZero}
 
 -- from -(2 ^ 53 - 1) to 2 ^ 53 - 1
@@ -31,3 +33,10 @@ quotient a b = if int_eq b (pos 0) then Err DivisionByZero else exact a b
 -- what division toward zero leaves; it has the sign of a
 abbrev pub remainder : ℤ → ℤ → Result ℤ Fault
 remainder a b = if int_eq b (pos 0) then Err DivisionByZero else safe (int_rem a b)
+
+abbrev pub result_of : NumberOp → ℤ → ℤ → Result ℤ Fault
+result_of op.Sum a b = sum a b
+result_of op.Difference a b = difference a b
+result_of op.Product a b = product a b
+result_of op.Quotient a b = quotient a b
+result_of op.Remainder a b = remainder a b

@@ -18,7 +18,11 @@ use Rattle.js_ops.specs.declared.kinds.Binary.{Binary}
 use Rattle.js_ops.specs.declared.kinds.Binary.TheVariants as binary
 use Rattle.js_ops.specs.declared.kinds.Unary.{Unary}
 use Rattle.js_ops.specs.declared.kinds.Unary.TheVariants as unary
-use Rattle.js_ops.specs.Numbers.{sum, difference, product, quotient, remainder}
+use Rattle.js_ops.specs.declared.kinds.NumberOp.{NumberOp}
+use Rattle.js_ops.specs.declared.kinds.NumberOp.TheVariants as op
+use Rattle.js_ops.specs.declared.kinds.OrderTest.{OrderTest}
+use Rattle.js_ops.specs.declared.kinds.OrderTest.TheVariants as test
+use Rattle.js_ops.specs.Numbers.{result_of}
 use Rattle.js_ops.specs.Convert.{is_text, to_text, to_number, truth, negated}
 use Rattle.js_ops.specs.Compare.{identical, order, of_both}
 
@@ -33,13 +37,19 @@ abbrev pub text_made : Result (List ℕ) Fault → Computed
 text_made (Ok t) = Gives t
 text_made (Err fault) = Throws fault
 
--- whether an order passes the test
-abbrev pub tested : (Ordering → Bool) → Result Ordering Fault → Computed
-tested test (Ok o) = bool_made (test o)
-tested test (Err fault) = Throws fault
+abbrev pub passes : OrderTest → Ordering → Bool
+passes test.Less o = is_lt o
+passes test.LessEqual o = is_le o
+passes test.Greater o = is_gt o
+passes test.GreaterEqual o = is_ge o
 
-abbrev pub of_numbers : (ℤ → ℤ → Result ℤ Fault) → Value → Value → Heap → Computed
-of_numbers f a b h = number_made (of_both f (to_number a h) (to_number b h))
+-- whether an order passes the test
+abbrev pub tested : OrderTest → Result Ordering Fault → Computed
+tested t (Ok o) = bool_made (passes t o)
+tested t (Err fault) = Throws fault
+
+abbrev pub of_numbers : NumberOp → Value → Value → Heap → Computed
+of_numbers op a b h = number_made (of_both (result_of op) (to_number a h) (to_number b h))
 
 abbrev pub join : List ℕ → List ℕ → Result (List ℕ) Fault
 join s t = Ok (s ++ t)
@@ -49,20 +59,20 @@ joined a b h = text_made (of_both join (to_text a h) (to_text b h))
 
 -- with a string on either side both become strings and are joined; else their sum
 abbrev pub added : Value → Value → Heap → Computed
-added a b h = if is_text a h || is_text b h then joined a b h else of_numbers sum a b h
+added a b h = if is_text a h || is_text b h then joined a b h else of_numbers op.Sum a b h
 
 abbrev pub binary_computed : Binary → Value → Value → Heap → Computed
 binary_computed binary.Identical a b h = bool_made (identical a b h)
 binary_computed binary.NotIdentical a b h = bool_made (not (identical a b h))
-binary_computed binary.Less a b h = tested is_lt (order a b h)
-binary_computed binary.LessEqual a b h = tested is_le (order a b h)
-binary_computed binary.Greater a b h = tested is_gt (order a b h)
-binary_computed binary.GreaterEqual a b h = tested is_ge (order a b h)
+binary_computed binary.Less a b h = tested test.Less (order a b h)
+binary_computed binary.LessEqual a b h = tested test.LessEqual (order a b h)
+binary_computed binary.Greater a b h = tested test.Greater (order a b h)
+binary_computed binary.GreaterEqual a b h = tested test.GreaterEqual (order a b h)
 binary_computed binary.Add a b h = added a b h
-binary_computed binary.Subtract a b h = of_numbers difference a b h
-binary_computed binary.Multiply a b h = of_numbers product a b h
-binary_computed binary.Divide a b h = of_numbers quotient a b h
-binary_computed binary.Remainder a b h = of_numbers remainder a b h
+binary_computed binary.Subtract a b h = of_numbers op.Difference a b h
+binary_computed binary.Multiply a b h = of_numbers op.Product a b h
+binary_computed binary.Divide a b h = of_numbers op.Quotient a b h
+binary_computed binary.Remainder a b h = of_numbers op.Remainder a b h
 
 -- a built-in is a function, but `console` and `JSON`
 abbrev pub native_type : Native → List ℕ

@@ -41,6 +41,25 @@ pub enum Unary {
     TypeOf,
 }
 
+/// The operations on two numbers.
+#[derive(Clone, Copy, Debug, PartialEq, Eq)]
+pub enum NumberOp {
+    Sum,
+    Difference,
+    Product,
+    Quotient,
+    Remainder,
+}
+
+/// What is asked of an order.
+#[derive(Clone, Copy, Debug, PartialEq, Eq)]
+pub enum OrderTest {
+    Less,
+    LessEqual,
+    Greater,
+    GreaterEqual,
+}
+
 /// Why there is no result of a conversion or an operation.
 #[derive(Clone, Copy, Debug, PartialEq, Eq)]
 pub enum Fault {
