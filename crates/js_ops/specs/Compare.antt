@@ -1,6 +1,7 @@
 -- Equality and order of values (ECMA-262, sections 7.2.13 and 7.2.14).
 use Rattle.std.specs.Prelude.{ℕ, ◌+◌, ◌==◌, Bool, true, false, not, List, Option, Some, None, Result, Ok, Err, ℤ, bytes_eq, if◌then◌else◌}
-use Rattle.std.specs.Ordering.{Ordering, nat_cmp, int_cmp, int_eq}
+use Rattle.std.specs.declared.cmp.Ordering.{Ordering}
+use Rattle.std.specs.Ordering.{nat_cmp, int_cmp, int_eq}
 use Rattle.std.specs.Cmp.Lexicographic.{slice_cmp}
 use Rattle.js_arena.specs.declared.value.ErrKind.{ErrKind}
 use Rattle.js_arena.specs.declared.value.ErrKind.TheVariants as kind

@@ -2,7 +2,8 @@
 use Rattle.std.specs.Prelude.{ℕ, ◌==◌, ◌&&◌, Bool, true, false, not, List, [], ◌∷◌, length, nat_le, nat_lt, Option, Some, None, is_some, Result, Ok, Err, ℤ, pos, if◌then◌else◌}
 use Rattle.std.specs.List.{list_all}
 use Rattle.std.specs.Ordering.{int_eq}
-use Rattle.std.specs.Fmt.{signed_decimal, codes}
+use Rattle.std.specs.Coded.{codes}
+use Rattle.std.specs.Fmt.{signed_decimal}
 use Rattle.js_arena.specs.declared.value.Value.{Value}
 use Rattle.js_arena.specs.declared.value.Value.TheVariants.{Undefined, Null, Bool as BoolValue, Number, Literal, Text, Cell, Native, Handle}
 use Rattle.js_arena.specs.Heap.{Heap, text_of}
@@ -30,11 +31,14 @@ text_or None v = plain_text v
 abbrev pub to_text : Value → Heap → Result (List ℕ) Fault
 to_text v h = text_or (text_of v h) v
 
--- the number that digits spell, one at least, where it is safe
+-- the number that digits spell, where it is safe
+abbrev pub spelled_number : List ℕ → Result ℤ Fault
+spelled_number ds = if list_all is_digit ds && nat_le (spelled ds) 9007199254740991 then Ok (pos (spelled ds)) else Err NotSafe
+
+-- one digit at least
 abbrev pub digits_number : List ℕ → Result ℤ Fault
 digits_number [] = Err NotSafe
-digits_number (c ∷ cs) =
-    if list_all is_digit (c ∷ cs) && nat_le (spelled (c ∷ cs)) 9007199254740991 then Ok (pos (spelled (c ∷ cs))) else Err NotSafe
+digits_number (c ∷ cs) = spelled_number (c ∷ cs)
 
 abbrev pub negated : Result ℤ Fault → Result ℤ Fault
 negated (Ok n) = difference (pos 0) n

@@ -1,7 +1,7 @@
 ghost use Rattle.std.specs.Prelude.{◌≡◌, ◌≤◌, Ok, IfOk};
 ghost use Rattle.std.specs.List.{list_all};
 ghost use Rattle.js_arena.specs.Keys.{is_digit};
-ghost use Rattle.js_ops.specs.Convert.{to_text, text_or, plain_text, to_number, plain_number, text_number, digits_number, negated, truth, plain_truth};
+ghost use Rattle.js_ops.specs.Convert.{to_text, text_or, plain_text, to_number, plain_number, text_number, spelled_number, digits_number, negated, truth, plain_truth};
 ghost use Rattle.js_ops.specs.Capped.{digit_step, capped};
 
 use crate::kinds::Fault;
@@ -16,7 +16,9 @@ pub fn widened(alloc: Global, bytes: &[u8]) -> Result<Units, NoMemory>
 {
     let mut units = Vec::with_capacity(alloc, bytes.len())?;
     for byte in bytes {
-        units.push(*byte as u16)?;
+        if units.push(*byte as u16).is_err() {
+            return Err(NoMemory);
+        }
     }
     Ok(Seq::from_vec(units))
 }
@@ -80,16 +82,22 @@ fn capped(units: &[u16]) -> u64
     units.iter().fold(0, |number, unit| with_digit(number, *unit))
 }
 
-/// The number that digits spell, one at least.
+/// The number that digits spell, where it is safe.
+#[tactic(auto, using(crate::proofs::Digits::same_number))]
+fn spelled_number(units: &[u16]) -> Result<i64, Fault>
+    ensures { result ≡ spelled_number units.now }
+{
+    let number = capped(units);
+    if all_digits(units) && number < 9007199254740992 { Ok(number as i64) } else { Err(Fault::NotSafe) }
+}
+
+/// The number of digits, one at least.
 fn digits_number(units: &[u16]) -> Result<i64, Fault>
     ensures { result ≡ digits_number units.now }
 {
     match units {
         [] => Err(Fault::NotSafe),
-        [_, ..] => {
-            let number = capped(units);
-            if all_digits(units) && number <= 9007199254740991 { Ok(number as i64) } else { Err(Fault::NotSafe) }
-        }
+        [_, ..] => spelled_number(units),
     }
 }
 
