@@ -1,8 +1,7 @@
 -- Conversions of values (ECMA-262, sections 7.1.2, 7.1.4 and 7.1.17). An object that is none of the plain values is not converted.
-use Rattle.std.specs.Prelude.{ℕ, ◌==◌, ◌&&◌, Bool, true, false, not, List, [], ◌∷◌, length, nat_le, nat_lt, Option, Some, None, is_some, Result, Ok, Err, ℤ, pos, if◌then◌else◌}
+use Rattle.std.specs.Prelude.{ℕ, codes, ◌==◌, ◌&&◌, Bool, true, false, not, List, [], ◌∷◌, length, nat_le, nat_lt, Option, Some, None, is_some, Result, Ok, Err, ℤ, pos, if◌then◌else◌}
 use Rattle.std.specs.List.{list_all}
 use Rattle.std.specs.Ordering.{int_eq}
-use Rattle.std.specs.Coded.{codes}
 use Rattle.std.specs.Fmt.{signed_decimal}
 use Rattle.js_arena.specs.declared.value.Value.{Value}
 use Rattle.js_arena.specs.declared.value.Value.TheVariants.{Undefined, Null, Bool as BoolValue, Number, Literal, Text, Cell, Native, Handle}

@@ -1,6 +1,5 @@
 -- What the operators compute (ECMA-262, sections 13.5, 13.7, 13.8, 13.10 and 13.11).
-use Rattle.std.specs.Prelude.{ℕ, ◌||◌, Bool, not, List, ◌++◌, Option, Some, None, Result, Ok, Err, ℤ, pos, if◌then◌else◌}
-use Rattle.std.specs.Coded.{codes}
+use Rattle.std.specs.Prelude.{ℕ, codes, ◌||◌, Bool, not, List, ◌++◌, Option, Some, None, Result, Ok, Err, ℤ, pos, if◌then◌else◌}
 use Rattle.std.specs.declared.cmp.Ordering.{Ordering}
 use Rattle.std.specs.Ordering.{is_lt, is_le, is_gt, is_ge}
 use Rattle.js_arena.specs.declared.value.Cell.{Cell}

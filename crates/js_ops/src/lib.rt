@@ -6,6 +6,8 @@ mod convert;
 mod kinds;
 mod numbers;
 mod operators;
+#[cfg(test)]
+mod tests;
 
 pub use convert::{text_of_value, to_number, truth};
 pub use kinds::{Binary, Fault, Unary};
