@@ -5,6 +5,7 @@ use std::test::Fail;
 use wd_base::{NoMemory, Seq, Units, units_of};
 
 /// What an operation came to: a value that is no string, the units of a string, or what is thrown.
+#[derive(Clone, Copy)]
 enum Came {
     Is(Value),
     Says(&'static [u8]),
@@ -44,8 +45,8 @@ fn says(alloc: Global, arena: &Arena, value: Value, text: &[u8]) -> Result<bool,
     }
 }
 
-fn is_as(alloc: Global, arena: &Arena, result: Result<Value, OpEnd>, came: &Came) -> Result<bool, NoMemory> {
-    match (result, came) {
+fn is_as(alloc: Global, arena: &Arena, found: Result<Value, OpEnd>, came: &Came) -> Result<bool, NoMemory> {
+    match (found, came) {
         (Err(OpEnd::NoMemory), _) => Err(NoMemory),
         (Ok(value), Came::Says(text)) => says(alloc, arena, value, text),
         (Ok(value), Came::Is(wanted)) => Ok(value == *wanted),
@@ -111,8 +112,8 @@ fn operators_are_those_of_the_table(rt: HostRuntime) -> Result<(), Fail> {
     let alloc = rt.alloc();
     for (limit, op, a, b, came) in &rows {
         let mut arena = Arena::new(alloc, *limit).with_texts(texts(alloc)?);
-        let result = binary(alloc, &mut arena, *op, *a, *b);
-        assert!(rt; is_as(alloc, &arena, result, came)?)?;
+        let found = binary(alloc, &mut arena, *op, *a, *b);
+        assert!(rt; is_as(alloc, &arena, found, came)?);
     }
     Ok(())
 }
@@ -140,8 +141,8 @@ fn operators_before_an_operand_are_those_of_the_table(rt: HostRuntime) -> Result
     let alloc = rt.alloc();
     for (op, value, came) in &rows {
         let mut arena = Arena::new(alloc, 99).with_texts(texts(alloc)?);
-        let result = unary(alloc, &mut arena, *op, *value);
-        assert!(rt; is_as(alloc, &arena, result, came)?)?;
+        let found = unary(alloc, &mut arena, *op, *value);
+        assert!(rt; is_as(alloc, &arena, found, came)?);
     }
     Ok(())
 }
