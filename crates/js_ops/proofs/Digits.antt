@@ -1,10 +1,9 @@
 -- The number of digits, up to 2 ^ 53, is that which they spell.
-use Rattle.std.proofs.Common.{◌≡◌, ◌∙◌, sym, ap, ℕ, ◌+◌, ◌-◌, ◌*◌, Bool, true, false, List, [], ◌∷◌, refl, arith, rules}
-use Rattle.std.specs.Prelude.{fold, nat_lt, nat_le, ◌&&◌, Result, Ok, Err, ℤ, pos, if◌then◌else◌}
+use Rattle.std.proofs.Common.{◌≡◌, ◌∙◌, ap, ℕ, ◌+◌, ◌-◌, ◌*◌, Bool, List, [], ◌∷◌, refl, arith, rules}
+use Rattle.std.specs.Prelude.{fold, nat_lt, nat_le, ◌&&◌, Ok, Err, pos, if◌then◌else◌}
 use Rattle.std.specs.List.{list_all}
 use Rattle.std.proofs.lemmas.Bool.Decides.{nat_tests}
 use Rattle.js_arena.specs.Keys.{is_digit, spelled}
-use Rattle.js_ops.specs.declared.kinds.Fault.{Fault}
 use Rattle.js_ops.specs.declared.kinds.Fault.TheVariants.{NotSafe}
 use Rattle.js_ops.specs.Capped.{cap, digit_step, capped}
 use Rattle.js_ops.specs.Convert.{spelled_number}

@@ -92,7 +92,8 @@ abbrev pub identical : Value → Value → Heap → Bool
 identical a b h = same_or (text_of a h) (text_of b h) (same_plain a b)
 
 -- the fault of the left side comes before that of the right one
-abbrev pub of_both : {X Y Z : Type 0} → (X → Y → Result Z Fault) → Result X Fault → Result Y Fault → Result Z Fault
+abbrev pub of_both : {X Y Z : Type 0}
+    → (X → Y → Result Z Fault) → Result X Fault → Result Y Fault → Result Z Fault
 of_both f (Ok x) (Ok y) = f x y
 of_both f (Ok x) (Err fault) = Err fault
 of_both f (Err fault) other = Err fault

@@ -1,10 +1,10 @@
--- Conversions of values (ECMA-262, sections 7.1.2, 7.1.4 and 7.1.17). An object that is none of the plain values is not converted.
+-- Conversions of values (ECMA-262, sections 7.1.2, 7.1.4 and 7.1.17). Objects are not converted.
 use Rattle.std.specs.Prelude.{ℕ, codes, ◌==◌, ◌&&◌, Bool, true, false, not, List, [], ◌∷◌, length, nat_le, nat_lt, Option, Some, None, is_some, Result, Ok, Err, ℤ, pos, if◌then◌else◌}
 use Rattle.std.specs.List.{list_all}
 use Rattle.std.specs.Ordering.{int_eq}
 use Rattle.std.specs.Fmt.{signed_decimal}
 use Rattle.js_arena.specs.declared.value.Value.{Value}
-use Rattle.js_arena.specs.declared.value.Value.TheVariants.{Undefined, Null, Bool as BoolValue, Number, Literal, Text, Cell, Native, Handle}
+use Rattle.js_arena.specs.declared.value.Value.TheVariants.{Undefined, Null, Bool as BoolValue, Number}
 use Rattle.js_arena.specs.Heap.{Heap, text_of}
 use Rattle.js_arena.specs.Keys.{is_digit, spelled}
 use Rattle.js_ops.specs.declared.kinds.Fault.{Fault}
@@ -32,7 +32,8 @@ to_text v h = text_or (text_of v h) v
 
 -- the number that digits spell, where it is safe
 abbrev pub spelled_number : List ℕ → Result ℤ Fault
-spelled_number ds = if list_all is_digit ds && nat_le (spelled ds) 9007199254740991 then Ok (pos (spelled ds)) else Err NotSafe
+spelled_number ds =
+    if list_all is_digit ds && nat_le (spelled ds) 9007199254740991 then Ok (pos (spelled ds)) else Err NotSafe
 
 -- one digit at least
 abbrev pub digits_number : List ℕ → Result ℤ Fault

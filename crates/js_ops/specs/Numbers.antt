@@ -1,5 +1,5 @@
 -- Arithmetic of safe integers (ECMA-262, sections 6.1.6.1 and 21.1.2.6). No number here is minus zero.
-use Rattle.std.specs.Prelude.{ℕ, ℤ, pos, neg_ℤ, ◌+ℤ◌, ◌-ℤ◌, ◌*ℤ◌, int_le, int_div, int_rem, Bool, ◌&&◌, if◌then◌else◌, Result, Ok, Err}
+use Rattle.std.specs.Prelude.{ℤ, pos, neg_ℤ, ◌+ℤ◌, ◌-ℤ◌, ◌*ℤ◌, int_le, int_div, int_rem, Bool, ◌&&◌, if◌then◌else◌, Result, Ok, Err}
 use Rattle.std.specs.Ordering.{int_eq}
 use Rattle.js_ops.specs.declared.kinds.Fault.{Fault}
 use Rattle.js_ops.specs.declared.kinds.NumberOp.{NumberOp}

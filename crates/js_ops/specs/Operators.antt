@@ -1,10 +1,9 @@
 -- What the operators compute (ECMA-262, sections 13.5, 13.7, 13.8, 13.10 and 13.11).
-use Rattle.std.specs.Prelude.{ℕ, codes, ◌||◌, Bool, not, List, ◌++◌, Option, Some, None, Result, Ok, Err, ℤ, pos, if◌then◌else◌}
+use Rattle.std.specs.Prelude.{ℕ, codes, ◌||◌, Bool, not, List, ◌++◌, Option, Some, None, Result, Ok, Err, ℤ, if◌then◌else◌}
 use Rattle.std.specs.declared.cmp.Ordering.{Ordering}
 use Rattle.std.specs.Ordering.{is_lt, is_le, is_gt, is_ge}
 use Rattle.js_arena.specs.declared.value.Cell.{Cell}
 use Rattle.js_arena.specs.declared.value.Cell.TheVariants as cell
-use Rattle.js_arena.specs.declared.value.NameSpace.{NameSpace}
 use Rattle.js_arena.specs.declared.value.NameSpace.TheVariants as space
 use Rattle.js_arena.specs.declared.value.Native.{Native}
 use Rattle.js_arena.specs.declared.value.Native.TheVariants as native

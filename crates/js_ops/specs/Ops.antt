@@ -1,10 +1,7 @@
 -- What an operation does to a script's heap.
-use Rattle.std.specs.Prelude.{◌≡◌, ℕ, ◌+◌, List, length, Result, Ok, Err, if◌then◌else◌}
-use Rattle.js_arena.specs.declared.value.Cell.{Cell}
+use Rattle.std.specs.Prelude.{◌≡◌, ℕ, List, length, Result, Ok, Err, if◌then◌else◌}
 use Rattle.js_arena.specs.declared.value.Cell.TheVariants.{Text as TextCell}
-use Rattle.js_arena.specs.declared.value.ErrKind.{ErrKind}
 use Rattle.js_arena.specs.declared.value.ErrKind.TheVariants.{TypeError, RangeError}
-use Rattle.js_arena.specs.declared.value.Msg.{Msg}
 use Rattle.js_arena.specs.declared.value.Msg.TheVariants as msg
 use Rattle.js_arena.specs.declared.value.OpEnd.{OpEnd}
 use Rattle.js_arena.specs.declared.value.OpEnd.TheVariants.{Throw, Full, NoMemory}
@@ -29,7 +26,9 @@ thrown DivisionByZero = Throw RangeError msg.DivisionByZero
 -- a new string behind the cells, where the heap has room for it
 abbrev pub text_in : List ℕ → Heap → Heap × Result Value OpEnd
 text_in t h =
-    if fits h (units (TextCell t)) then (with_cell (TextCell t) h, Ok (Text (record { 0 = length h.cells }))) else (h, Err Full)
+    if fits h (units (TextCell t))
+    then (with_cell (TextCell t) h, Ok (Text (record { 0 = length h.cells })))
+    else (h, Err Full)
 
 -- the heap with what was computed, and the value or why there is none
 abbrev pub made_in : Computed → Heap → Heap × Result Value OpEnd

@@ -1,7 +1,7 @@
-ghost use Rattle.std.specs.Prelude.{◌≡◌, ◌≤◌, Ok, IfOk};
+ghost use Rattle.std.specs.Prelude.{◌≡◌, Ok, IfOk};
 ghost use Rattle.std.specs.List.{list_all};
 ghost use Rattle.js_arena.specs.Keys.{is_digit};
-ghost use Rattle.js_ops.specs.Convert.{to_text, text_or, plain_text, to_number, plain_number, text_number, spelled_number, digits_number, negated, truth, plain_truth};
+ghost use Rattle.js_ops.specs.Convert.{to_text, plain_text, to_number, plain_number, text_number, spelled_number, digits_number, negated, truth, plain_truth};
 ghost use Rattle.js_ops.specs.Capped.{digit_step, capped};
 
 use crate::kinds::Fault;
@@ -69,11 +69,11 @@ fn all_digits(units: &[u16]) -> bool
 
 /// The number that one more digit makes, and 2 ^ 53 where it is that or more.
 fn with_digit(number: u64, unit: u16) -> u64
-    requires { number ≤ 9007199254740992 }
     ensures { result ≡ digit_step number unit }
 {
-    let more = number * 10 + unit.saturating_sub(48) as u64;
-    if more < 9007199254740992 { more } else { 9007199254740992 }
+    let digit = unit.saturating_sub(48) as u128;
+    let more = number as u128 * 10 + digit;
+    if more < 9007199254740992 { more as u64 } else { 9007199254740992 }
 }
 
 fn capped(units: &[u16]) -> u64
