@@ -30,3 +30,7 @@ pub pairs_lookup : (es : List (Vec ℕ Global × Value)) (key : List ℕ) → lo
 pairs_lookup [] key = refl
 pairs_lookup (e ∷ es) key =
     lookup_step (bytes_eq key e.0.items) e.1 (lookup (λ k. bytes_eq key k.items) es) (lookup (bytes_eq key) (pairs_of es)) (pairs_lookup es key)
+
+pub pairs_values : (es : List (Vec ℕ Global × Value)) → map (λ p. p.1) (pairs_of es) ≡ map (λ e. e.1) es
+pairs_values [] = refl
+pairs_values (e ∷ es) = ap (λ (vs : List Value). e.1 ∷ vs) (pairs_values es)

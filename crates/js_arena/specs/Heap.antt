@@ -1,6 +1,7 @@
 -- A script's heap, and each change of it.
-use Rattle.std.specs.Prelude.{◌≡◌, ℕ, ◌+◌, ◌-◌, ◌*◌, ◌≤◌, ◌<◌, ◌==◌, ◌&&◌, ◌||◌, Bool, true, false, List, [], ◌∷◌, ◌++◌, length, take, Option, Some, None, Result, Ok, Err, nat_le, slice_get, slice_set, if◌then◌else◌}
-use Rattle.std.specs.List.{list_any, repeat}
+use Rattle.std.specs.Prelude.{◌≡◌, ℕ, ◌+◌, ◌-◌, ◌*◌, ◌≤◌, ◌<◌, ◌==◌, ◌&&◌, ◌||◌, Bool, true, false, List, [], ◌∷◌, ◌++◌, length, map, take, Option, Some, None, Result, Ok, Err, nat_le, slice_get, slice_set, replicate, if◌then◌else◌}
+use Rattle.std.specs.List.{list_any, position_or_len}
+use Rattle.indexmap.specs.IndexSet.{insert_key}
 use Rattle.wd_base.specs.declared.ids.Req.{Req}
 use Rattle.wd_base.specs.declared.ids.Obj.{Obj}
 use Rattle.js_arena.specs.declared.value.CellNo.{CellNo}
@@ -19,6 +20,9 @@ use Rattle.js_arena.specs.Units.{units}
 -- the items but the last
 abbrev pub without_end : List Value → List Value
 without_end items = take (length items - 1) items
+
+abbrev pub last_of : List Value → Option Value
+last_of items = slice_get items (length items - 1)
 
 -- the cells by their numbers, the script's texts, the names of handles by their numbers, the units that were taken, and the most that may be
 pub record Heap : Type 0 where
@@ -50,7 +54,7 @@ with_cell cell h = with_cells (cell ∷ []) (units cell) h
 
 -- the heap with n more variables that are not initialised
 abbrev pub with_variables : ℕ → Heap → Heap
-with_variables n h = with_cells (repeat n (Variable None ∷ [])) (2 * n) h
+with_variables n h = with_cells (replicate n (Variable None)) (2 * n) h
 
 -- the heap with another cell under this number
 abbrev pub with_other : CellNo → Cell → Heap → Heap
@@ -130,6 +134,22 @@ text_of (value.Literal k) h = slice_get h.texts k
 text_of (value.Text at) h = text_in (cell_at h at)
 text_of _ h = None
 
+abbrev pub same_bool : Bool → Bool → Bool
+same_bool true b = b
+same_bool false true = false
+same_bool false false = true
+
+abbrev pub same_name : HandleName → HandleName → Bool
+same_name a b = (a.req == b.req) && ((a.obj == b.obj) && same_bool a.event b.event)
+
+-- the number of a name: its own, or the next
+abbrev pub handle_no : HandleName → List HandleName → ℕ
+handle_no name handles = position_or_len (same_name name) handles
+
+-- the heap in which the name has a number: one that is there keeps its own, and a new one goes last
+abbrev pub with_handle : HandleName → Heap → Heap
+with_handle name h = record h { handles = insert_key same_name h.handles name }
+
 -- the name of a handle is that of the object, and that of an event names object 0 of its request as well
 abbrev pub names : Req → Obj → HandleName → Bool
 names req obj name = (name.req == req.0) && ((name.obj == obj.0) || (name.event && (obj.0 == 0)))
@@ -149,7 +169,7 @@ variable_holds handles req obj None = false
 abbrev pub cell_holds : List HandleName → Req → Obj → Cell → Bool
 cell_holds handles req obj (Text t) = false
 cell_holds handles req obj (Variable v) = variable_holds handles req obj v
-cell_holds handles req obj (Object props) = list_any (λ p. value_holds handles req obj p.1) props
+cell_holds handles req obj (Object props) = list_any (value_holds handles req obj) (map (λ p. p.1) props)
 cell_holds handles req obj (Array items) = list_any (value_holds handles req obj) items
 cell_holds handles req obj (Function n) = false
 cell_holds handles req obj Activation = false

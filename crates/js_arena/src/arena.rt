@@ -1,15 +1,17 @@
-ghost use Rattle.std.specs.Prelude.{◌≡◌, [], ◌∷◌, ◌++◌, ◌<◌, ◌≤◌, ◌+◌, ◌*◌, length, nat_le, slice_get, slice_set, Option, Some, None, OnOk, OnErr, IfSome, IsNone, true, false, option_map};
+ghost use Rattle.std.specs.Prelude.{◌≡◌, [], ◌∷◌, ◌++◌, ◌<◌, ◌≤◌, ◌+◌, ◌*◌, length, map, nat_le, replicate, slice_get, slice_set, Option, Some, None, IfOk, OnOk, OnErr, IfSome, IsNone, true, false, option_map};
 ghost use Rattle.std.specs.Option.{option_copied};
-ghost use Rattle.std.specs.List.{list_any, repeat};
+ghost use Rattle.std.specs.List.{list_any};
 ghost use Rattle.js_arena.specs.Props.{put_prop, put_units};
 ghost use Rattle.js_arena.specs.Units.{units};
-ghost use Rattle.js_arena.specs.Heap.{Heap, Adds, cell_at, with_cell, with_variables, with_grown, with_value, with_prop, prop_units, with_item, with_item_at, without_last, without_end, same_kind, more_units, is_variable, is_object, is_array, props_of, items_of, text_of, heap_holds, cell_holds, value_holds};
+ghost use Rattle.js_arena.specs.Heap.{Heap, Adds, cell_at, with_cell, with_variables, with_grown, with_value, with_prop, prop_units, with_item, with_item_at, without_last, without_end, same_kind, more_units, is_variable, is_object, is_array, props_of, items_of, last_of, text_of, text_in, handle_no, with_handle, names, heap_holds, cell_holds, value_holds};
 ghost use Rattle.js_arena.specs.declared.value.Cell.TheVariants.{Variable, Array, Object};
 
+use crate::held::{any_holds, value_holds};
 use crate::value::{ArenaEnd, Cell, CellNo, HandleName, HandleNo, Value};
 use indexmap::IndexSet;
 use std::alloc::Global;
 use std::marker::Model;
+use std::mem;
 use wd_base::{NoMemory, Obj, Req, Seq, Units};
 
 /// The heap of a script: its cells, with the units that they took and may take. Contracts see a
@@ -70,7 +72,7 @@ fn push_cell(cells: &mut Vec<Cell>, cell: Cell) -> Result<(), NoMemory>
     }
 }
 
-/// The script writes the property of an object.
+/// Writes a property of the object.
 fn put_into(cell: &mut Cell, alloc: Global, key: &[u16], value: Value) -> Result<(), NoMemory>
     requires { is_object (Some cell.old) ≡ true }
     ensures ok { OnOk result (cell.new ≡ Object (put_prop key.now value (props_of (Some cell.old)))) }
@@ -137,6 +139,89 @@ fn set_at(cells: &mut Vec<Cell>, at: usize, index: usize, value: Value)
     ensures { cells.new.items ≡ slice_set cells.old.items at (Array (slice_set (items_of (slice_get cells.old.items at)) index value)) }
 {
     set_in(&mut cells[at], index, value)
+}
+
+/// Takes the last item away.
+fn pop_item(alloc: Global, items: &mut Seq<Value>) -> Option<Value>
+    ensures value { result ≡ last_of items.old }
+    ensures items { items.new ≡ without_end items.old }
+{
+    let mut rest = mem::replace(items, Seq::new(alloc)).into_vec();
+    let last = rest.pop();
+    *items = Seq::from_vec(rest);
+    last
+}
+
+fn pop_in(alloc: Global, cell: &mut Cell) -> Option<Value>
+    requires { is_array (Some cell.old) ≡ true }
+    ensures value { result ≡ last_of (items_of (Some cell.old)) }
+    ensures cell { cell.new ≡ Array (without_end (items_of (Some cell.old))) }
+{
+    match cell {
+        Cell::Array(items) => pop_item(alloc, items),
+        _ => unreachable!(),
+    }
+}
+
+fn pop_at(alloc: Global, cells: &mut Vec<Cell>, at: usize) -> Option<Value>
+    requires { is_array (slice_get cells.old.items at) ≡ true }
+    ensures value { result ≡ last_of (items_of (slice_get cells.old.items at)) }
+    ensures cells { cells.new.items ≡ slice_set cells.old.items at (Array (without_end (items_of (slice_get cells.old.items at)))) }
+{
+    pop_in(alloc, &mut cells[at])
+}
+
+/// The units by which a cell passes that at a place.
+fn units_more(cells: &Vec<Cell>, at: usize, cell: &Cell) -> u128
+    requires { at < length cells.now.items }
+    ensures { result ≡ more_units (slice_get cells.now.items at) cell.now }
+{
+    units_of(cell).saturating_sub(units_of(&cells[at]))
+}
+
+/// Adds variables that are not initialised at the end.
+fn push_variables(cells: &mut Vec<Cell>, count: u32) -> Result<(), NoMemory>
+    ensures ok { OnOk result (cells.new.items ≡ cells.old.items ++ replicate count (Variable None)) }
+    ensures err { OnErr result (cells.new.items ≡ cells.old.items) }
+{
+    let before = cells.len();
+    for _ in 0..count {
+        if cells.push(Cell::Variable(None)).is_err() {
+            cells.truncate(before);
+            return Err(NoMemory);
+        }
+    }
+    Ok(())
+}
+
+fn text_at(texts: &Seq<Units>, at: usize) -> Option<&[u16]>
+    ensures { option_map (λ t. t.now) result ≡ slice_get texts.now at }
+{
+    match texts.get(at) {
+        Some(text) => Some(text.as_slice()),
+        None => None,
+    }
+}
+
+fn text_in(cells: &Vec<Cell>, at: usize) -> Option<&[u16]>
+    ensures { option_map (λ t. t.now) result ≡ text_in (slice_get cells.now.items at) }
+{
+    match cells.get(at) {
+        Some(Cell::Text(text)) => Some(text.as_slice()),
+        _ => None,
+    }
+}
+
+/// The cell holds a handle of the object.
+fn cell_holds(cell: &Cell, names_of: &[HandleName], req: Req, obj: Obj) -> bool
+    ensures { result ≡ cell_holds names_of.now req obj cell.now }
+{
+    match cell {
+        Cell::Variable(Some(value)) => value_holds(value, names_of, req, obj),
+        Cell::Object(props) => props.holds(names_of, req, obj),
+        Cell::Array(items) => any_holds(items.as_slice(), names_of, req, obj),
+        _ => false,
+    }
 }
 
 impl Arena {
@@ -252,5 +337,82 @@ impl Arena {
         ensures { self.new ≡ with_item_at no index value self.old }
     {
         set_at(&mut self.cells, no.0 as usize, index, value)
+    }
+
+    /// Takes the last item of an array away. Its units are not given back.
+    pub fn pop(&mut self, alloc: Global, no: CellNo) -> Option<Value>
+        requires { is_array (cell_at self.old no) ≡ true }
+        ensures value { result ≡ last_of (items_of (cell_at self.old no)) }
+        ensures heap { self.new ≡ without_last no self.old }
+    {
+        pop_at(alloc, &mut self.cells, no.0 as usize)
+    }
+
+    /// Puts another cell of the same kind in the place of a cell, for the units by which it passes the old one.
+    pub fn replace(&mut self, no: CellNo, cell: Cell) -> Result<(), ArenaEnd>
+        requires { same_kind (cell_at self.old no) cell ≡ true }
+        ensures { Adds self.old (more_units (cell_at self.old no) cell) (λ _. self.new ≡ with_grown no cell (more_units (cell_at self.old no) cell) self.old) self.new result }
+    {
+        let added = units_more(&self.cells, no.0 as usize, &cell);
+        let Some(total) = room(self.total, self.limit, added) else {
+            return Err(ArenaEnd::Full);
+        };
+        self.cells[no.0 as usize] = cell;
+        self.total = total;
+        Ok(())
+    }
+
+    /// New variables in a row that are not initialised, for 2 units each; the number is that of the first.
+    pub fn variables(&mut self, count: u32) -> Result<CellNo, ArenaEnd>
+        ensures { Adds self.old (2 * count) (λ no. (no.0 ≡ length self.old.cells) × (self.new ≡ with_variables count self.old)) self.new result }
+    {
+        let Some(total) = room(self.total, self.limit, 2 * count as u128) else {
+            return Err(ArenaEnd::Full);
+        };
+        let no = CellNo(self.cells.len() as u32);
+        match push_variables(&mut self.cells, count) {
+            Ok(()) => {
+                self.total = total;
+                Ok(no)
+            }
+            Err(_) => Err(ArenaEnd::NoMemory),
+        }
+    }
+
+    /// The units of a string, and None for any other value.
+    pub fn text(&self, value: Value) -> Option<&[u16]>
+        ensures { option_map (λ t. t.now) result ≡ text_of value self.now }
+    {
+        match value {
+            Value::Literal(number) => text_at(&self.texts, number as usize),
+            Value::Text(no) => text_in(&self.cells, no.0 as usize),
+            _ => None,
+        }
+    }
+
+    /// The number of a handle's name: its own, or a new one. It takes no units.
+    pub fn hand(&mut self, name: HandleName) -> Result<HandleNo, NoMemory>
+        ensures ok { IfOk result (λ no. (no.0 ≡ handle_no name self.old.handles) × (self.new ≡ with_handle name self.old)) }
+        ensures err { OnErr result (self.new ≡ self.old) }
+    {
+        match self.hands.insert_full(name) {
+            Ok((at, _)) => Ok(HandleNo(at)),
+            Err(_) => Err(NoMemory),
+        }
+    }
+
+    /// What a handle names, and None where the heap has no such number.
+    pub fn handle(&self, no: HandleNo) -> Option<HandleName>
+        ensures { result ≡ slice_get self.now.handles no.0 }
+    {
+        self.hands.get_index(no.0).copied()
+    }
+
+    /// A cell holds a handle of this object. A handle of an event is one of object 0 as well.
+    pub fn held(&self, req: Req, obj: Obj) -> bool
+        ensures { result ≡ heap_holds req obj self.now }
+    {
+        let names = self.hands.as_slice();
+        self.cells.iter().any(|cell| cell_holds(cell, names, req, obj))
     }
 }

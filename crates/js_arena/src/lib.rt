@@ -2,6 +2,7 @@
 #![tactic(auto)]
 
 mod arena;
+mod held;
 mod keys;
 mod props;
 mod value;

@@ -1,12 +1,17 @@
-ghost use Rattle.std.specs.Prelude.{◌≡◌, [], ◌∷◌, ◌++◌, length, OnOk, OnErr, IfOk, Option, true, is_some};
+ghost use Rattle.std.specs.Prelude.{◌≡◌, [], ◌∷◌, ◌++◌, length, OnOk, OnErr, IfOk, Option, true, is_some, map};
+ghost use Rattle.std.specs.List.{list_any};
+ghost use Rattle.js_arena.specs.Heap.{value_holds};
 ghost use Rattle.js_arena.specs.Props.{get_prop, put_prop, has_prop};
+ghost use Rattle.js_arena.specs.Keys.{own_keys};
 ghost use Rattle.js_arena.specs.Pairs.{pairs_of};
 
-use crate::value::Value;
+use crate::keys::KeyOrder;
+use crate::held::value_holds;
+use crate::value::{HandleName, Value};
 use indexmap::IndexMap;
 use std::alloc::Global;
 use std::marker::Model;
-use wd_base::{NoMemory, Seq, Units};
+use wd_base::{NoMemory, Obj, Req, Seq, Units};
 
 /// A short text in one word, as the name in a message.
 #[derive(Debug, Drop)]
@@ -54,7 +59,8 @@ pub struct Props {
 impl Model for Props {
     ghost use Rattle.std.specs.Prelude.{ℕ, List};
     ghost use Rattle.js_arena.specs.declared.value.Value.{Value as ScriptValue};
-    ghost use Rattle.js_arena.specs.Pairs.{pairs_of};
+    ghost use Rattle.js_arena.specs.Keys.{own_keys};
+ghost use Rattle.js_arena.specs.Pairs.{pairs_of};
 
     ghost Value = { List (List ℕ × ScriptValue) };
 
@@ -80,6 +86,7 @@ impl Props {
     }
 
     /// The value of the property with this key.
+    #[tactic(auto, using(crate::proofs::PairsKept::pairs_lookup))]
     pub fn get(&self, key: &[u16]) -> Option<Value>
         ensures { result ≡ get_prop key.now self.now }
     {
@@ -91,6 +98,22 @@ impl Props {
         ensures { result ≡ has_prop key.now self.now }
     {
         self.get(key).is_some()
+    }
+
+    /// A property's value is a handle of the object.
+    #[tactic(auto, using(crate::proofs::PairsKept::pairs_values))]
+    pub fn holds(&self, names: &[HandleName], req: Req, obj: Obj) -> bool
+        ensures { result ≡ list_any (value_holds names.now req obj) (map (λ p. p.1) self.now) }
+    {
+        one_holds(&self.map, names, req, obj)
+    }
+
+    /// The own keys in their order: array indexes ascending, then the others in order of creation
+    /// (ECMA-262, section 10.1.11.1).
+    pub fn keys(&self, alloc: Global) -> Result<Seq<Units>, NoMemory>
+        ensures { IfOk result (λ keys. keys ≡ own_keys self.now) }
+    {
+        keys_in_order(alloc, &self.map)
     }
 
     /// Writes a property: one that is there keeps its place, and a new one goes last.
@@ -111,6 +134,7 @@ impl Props {
     }
 }
 
+#[tactic(auto, using(crate::proofs::PairsKept::pairs_insert))]
 fn put_entry(map: &mut IndexMap<Vec<u16>, Value>, key: Vec<u16>, value: Value) -> Result<(), NoMemory>
     ensures ok { OnOk result (pairs_of map.new.entries ≡ put_prop key.items value (pairs_of map.old.entries)) }
     ensures err { OnErr result (map.new.entries ≡ map.old.entries) }
@@ -119,4 +143,20 @@ fn put_entry(map: &mut IndexMap<Vec<u16>, Value>, key: Vec<u16>, value: Value) -
         Ok(_) => Ok(()),
         Err(_) => Err(NoMemory),
     }
+}
+
+fn keys_in_order(alloc: Global, map: &IndexMap<Vec<u16>, Value>) -> Result<Seq<Units>, NoMemory>
+    ensures { IfOk result (λ keys. keys ≡ own_keys (pairs_of map.now.entries)) }
+{
+    let mut order = KeyOrder::new(alloc);
+    for key in map.keys() {
+        order.add(Seq::copy(alloc, key.as_slice())?)?;
+    }
+    order.into_keys(alloc)
+}
+
+fn one_holds(entries: &IndexMap<Vec<u16>, Value>, names: &[HandleName], req: Req, obj: Obj) -> bool
+    ensures { result ≡ list_any (value_holds names.now req obj) (map (λ e. e.1) entries.now.entries) }
+{
+    entries.values().any(|value| value_holds(value, names, req, obj))
 }
