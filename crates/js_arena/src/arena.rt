@@ -1,9 +1,13 @@
-ghost use Rattle.std.specs.Prelude.{◌≡◌, [], ◌∷◌, ◌++◌, ◌<◌, ◌≤◌, ◌+◌, ◌*◌, length, map, nat_le, replicate, slice_get, slice_set, Option, Some, None, IfOk, OnOk, OnErr, IfSome, IsNone, true, false, option_map};
+ghost use Rattle.std.specs.Prelude.{◌≡◌, [], ◌∷◌, ◌++◌, ◌<◌, ◌≤◌, ◌+◌, ◌*◌, length, map, nat_le, replicate, slice_get, slice_set, true, false};
+ghost use Rattle.std.specs.Prelude.{Option, Some, None, option_map, IfOk, OnOk, OnErr, IfSome, IsNone};
 ghost use Rattle.std.specs.Option.{option_copied};
 ghost use Rattle.std.specs.List.{list_any};
 ghost use Rattle.js_arena.specs.Props.{put_prop, put_units};
 ghost use Rattle.js_arena.specs.Units.{units};
-ghost use Rattle.js_arena.specs.Heap.{Heap, Adds, cell_at, with_cell, with_variables, with_grown, with_value, with_prop, prop_units, with_item, with_item_at, without_last, without_end, same_kind, more_units, is_variable, is_object, is_array, props_of, items_of, last_of, text_of, text_in, handle_no, with_handle, names, heap_holds, cell_holds, value_holds};
+ghost use Rattle.js_arena.specs.Heap.{Heap, Adds, AddsCell, AddsVariables, AddsProp, Replaces, cell_at, put_at, push_at, set_at, pop_at};
+ghost use Rattle.js_arena.specs.Heap.{with_value, with_item, with_item_at, without_last, without_end, last_of, same_kind, more_units};
+ghost use Rattle.js_arena.specs.Heap.{is_variable, is_object, is_array, props_of, items_of, text_of, text_in, handle_no, with_handle};
+ghost use Rattle.js_arena.specs.Heap.{heap_holds, cell_holds, value_holds};
 ghost use Rattle.js_arena.specs.declared.value.Cell.TheVariants.{Variable, Array, Object};
 
 use crate::held::{any_holds, value_holds};
@@ -84,9 +88,15 @@ fn put_into(cell: &mut Cell, alloc: Global, key: &[u16], value: Value) -> Result
     }
 }
 
-fn put_at(cells: &mut Vec<Cell>, at: usize, alloc: Global, key: &[u16], value: Value) -> Result<(), NoMemory>
+fn put_at(
+    cells: &mut Vec<Cell>,
+    at: usize,
+    alloc: Global,
+    key: &[u16],
+    value: Value,
+) -> Result<(), NoMemory>
     requires { is_object (slice_get cells.old.items at) ≡ true }
-    ensures ok { OnOk result (cells.new.items ≡ slice_set cells.old.items at (Object (put_prop key.now value (props_of (slice_get cells.old.items at))))) }
+    ensures ok { OnOk result (cells.new.items ≡ put_at at key.now value cells.old.items) }
     ensures err { OnErr result (cells.new.items ≡ cells.old.items) }
 {
     put_into(&mut cells[at], alloc, key, value)
@@ -116,7 +126,7 @@ fn push_item(cell: &mut Cell, value: Value) -> Result<(), NoMemory>
 
 fn push_at(cells: &mut Vec<Cell>, at: usize, value: Value) -> Result<(), NoMemory>
     requires { is_array (slice_get cells.old.items at) ≡ true }
-    ensures ok { OnOk result (cells.new.items ≡ slice_set cells.old.items at (Array (items_of (slice_get cells.old.items at) ++ value ∷ []))) }
+    ensures ok { OnOk result (cells.new.items ≡ push_at at value cells.old.items) }
     ensures err { OnErr result (cells.new.items ≡ cells.old.items) }
 {
     push_item(&mut cells[at], value)
@@ -136,7 +146,7 @@ fn set_in(cell: &mut Cell, index: usize, value: Value)
 fn set_at(cells: &mut Vec<Cell>, at: usize, index: usize, value: Value)
     requires array { is_array (slice_get cells.old.items at) ≡ true }
     requires within { index < length (items_of (slice_get cells.old.items at)) }
-    ensures { cells.new.items ≡ slice_set cells.old.items at (Array (slice_set (items_of (slice_get cells.old.items at)) index value)) }
+    ensures { cells.new.items ≡ set_at at index value cells.old.items }
 {
     set_in(&mut cells[at], index, value)
 }
@@ -166,7 +176,7 @@ fn pop_in(alloc: Global, cell: &mut Cell) -> Option<Value>
 fn pop_at(alloc: Global, cells: &mut Vec<Cell>, at: usize) -> Option<Value>
     requires { is_array (slice_get cells.old.items at) ≡ true }
     ensures value { result ≡ last_of (items_of (slice_get cells.old.items at)) }
-    ensures cells { cells.new.items ≡ slice_set cells.old.items at (Array (without_end (items_of (slice_get cells.old.items at)))) }
+    ensures cells { cells.new.items ≡ pop_at at cells.old.items }
 {
     pop_in(alloc, &mut cells[at])
 }
@@ -180,13 +190,14 @@ fn units_more(cells: &Vec<Cell>, at: usize, cell: &Cell) -> u128
 }
 
 /// Adds variables that are not initialised at the end.
+#[tactic(auto, using(crate::proofs::Rows::rows_more, crate::proofs::Rows::rows_back))]
 fn push_variables(cells: &mut Vec<Cell>, count: u32) -> Result<(), NoMemory>
     ensures ok { OnOk result (cells.new.items ≡ cells.old.items ++ replicate count (Variable None)) }
     ensures err { OnErr result (cells.new.items ≡ cells.old.items) }
 {
     let before = cells.len();
-    for _ in 0..count {
-        if cells.push(Cell::Variable(None)).is_err() {
+    for at in 0..count {
+        if push_cell(cells, Cell::Variable(None)).is_err() {
             cells.truncate(before);
             return Err(NoMemory);
         }
@@ -256,7 +267,7 @@ impl Arena {
 
     /// A new cell, for its units.
     pub fn alloc_cell(&mut self, cell: Cell) -> Result<CellNo, ArenaEnd>
-        ensures { Adds self.old (units cell) (λ no. (no.0 ≡ length self.old.cells) × (self.new ≡ with_cell cell self.old)) self.new result }
+        ensures { AddsCell cell self.old self.new result }
     {
         let added = units_of(&cell);
         let Some(total) = room(self.total, self.limit, added) else {
@@ -295,10 +306,10 @@ impl Arena {
         self.cells[no.0 as usize] = Cell::Variable(Some(value));
     }
 
-    /// Writes a property of an object: 4 units where it is a new one. The key is copied only then.
+    /// Writes a property of an object, for 4 units where it is a new one.
     pub fn put(&mut self, alloc: Global, no: CellNo, key: &[u16], value: Value) -> Result<(), ArenaEnd>
         requires { is_object (cell_at self.old no) ≡ true }
-        ensures { Adds self.old (prop_units no key.now self.old) (λ _. self.new ≡ with_prop no key.now value self.old) self.new result }
+        ensures { AddsProp no key.now value self.old self.new result }
     {
         let added = put_cost(&self.cells, no.0 as usize, key);
         let Some(total) = room(self.total, self.limit, added) else {
@@ -351,7 +362,7 @@ impl Arena {
     /// Puts another cell of the same kind in the place of a cell, for the units by which it passes the old one.
     pub fn replace(&mut self, no: CellNo, cell: Cell) -> Result<(), ArenaEnd>
         requires { same_kind (cell_at self.old no) cell ≡ true }
-        ensures { Adds self.old (more_units (cell_at self.old no) cell) (λ _. self.new ≡ with_grown no cell (more_units (cell_at self.old no) cell) self.old) self.new result }
+        ensures { Replaces no cell self.old self.new result }
     {
         let added = units_more(&self.cells, no.0 as usize, &cell);
         let Some(total) = room(self.total, self.limit, added) else {
@@ -363,8 +374,9 @@ impl Arena {
     }
 
     /// New variables in a row that are not initialised, for 2 units each; the number is that of the first.
+    #[tactic(auto, using(crate::proofs::Rows::rows_length))]
     pub fn variables(&mut self, count: u32) -> Result<CellNo, ArenaEnd>
-        ensures { Adds self.old (2 * count) (λ no. (no.0 ≡ length self.old.cells) × (self.new ≡ with_variables count self.old)) self.new result }
+        ensures { AddsVariables count self.old self.new result }
     {
         let Some(total) = room(self.total, self.limit, 2 * count as u128) else {
             return Err(ArenaEnd::Full);

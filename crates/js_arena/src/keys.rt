@@ -1,4 +1,4 @@
-ghost use Rattle.std.specs.Prelude.{◌≡◌, ◌++◌, ◌+◌, ◌-◌, ◌*◌, [], ◌∷◌, IfOk, OnOk, OnErr, min, map};
+ghost use Rattle.std.specs.Prelude.{◌≡◌, ◌++◌, ◌+◌, ◌-◌, ◌*◌, [], ◌∷◌, ◌&&◌, IfOk, OnOk, Some, None, map, nat_lt, if◌then◌else◌};
 ghost use Rattle.std.specs.List.{list_all};
 ghost use Rattle.std.specs.Ordering.{nat_cmp};
 ghost use Rattle.std.specs.BTreeMap.{insert_entry};
@@ -47,14 +47,19 @@ fn number_of(key: &[u16]) -> u32
     key.iter().fold(0, |number, unit| with_digit(number, *unit))
 }
 
+fn below_greatest(canonical: bool, number: u32) -> Option<u32>
+    ensures { result ≡ (if canonical && nat_lt number 4294967295 then Some number else None) }
+{
+    if canonical && number < 4_294_967_295 { Some(number) } else { None }
+}
+
 /// The number of a key that is an array index: the decimal digits of a number below 4,294,967,295
 /// (ECMA-262, section 6.1.7).
 #[tactic(auto, using(crate::proofs::Numbers::same_index))]
 pub fn array_index(key: &[u16]) -> Option<u32>
     ensures { result ≡ index_of key.now }
 {
-    let number = number_of(key);
-    if is_canonical(key) && number < 4_294_967_295 { Some(number) } else { None }
+    below_greatest(is_canonical(key), number_of(key))
 }
 
 /// Own keys in their order, as they are collected.

@@ -5,6 +5,8 @@ mod arena;
 mod held;
 mod keys;
 mod props;
+#[cfg(test)]
+mod tests;
 mod value;
 
 pub use arena::Arena;

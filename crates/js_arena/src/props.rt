@@ -2,11 +2,11 @@ ghost use Rattle.std.specs.Prelude.{◌≡◌, [], ◌∷◌, ◌++◌, length, 
 ghost use Rattle.std.specs.List.{list_any};
 ghost use Rattle.js_arena.specs.Heap.{value_holds};
 ghost use Rattle.js_arena.specs.Props.{get_prop, put_prop, has_prop};
-ghost use Rattle.js_arena.specs.Keys.{own_keys};
-ghost use Rattle.js_arena.specs.Pairs.{pairs_of};
+ghost use Rattle.js_arena.specs.Keys.{listed, order_of, own_keys};
+ghost use Rattle.js_arena.specs.Pairs.{key_units, pairs_of};
 
+use crate::held::any_holds;
 use crate::keys::KeyOrder;
-use crate::held::value_holds;
 use crate::value::{HandleName, Value};
 use indexmap::IndexMap;
 use std::alloc::Global;
@@ -59,7 +59,7 @@ pub struct Props {
 impl Model for Props {
     ghost use Rattle.std.specs.Prelude.{ℕ, List};
     ghost use Rattle.js_arena.specs.declared.value.Value.{Value as ScriptValue};
-    ghost use Rattle.js_arena.specs.Keys.{own_keys};
+    ghost use Rattle.js_arena.specs.Keys.{listed, order_of, own_keys};
 ghost use Rattle.js_arena.specs.Pairs.{pairs_of};
 
     ghost Value = { List (List ℕ × ScriptValue) };
@@ -105,15 +105,16 @@ impl Props {
     pub fn holds(&self, names: &[HandleName], req: Req, obj: Obj) -> bool
         ensures { result ≡ list_any (value_holds names.now req obj) (map (λ p. p.1) self.now) }
     {
-        one_holds(&self.map, names, req, obj)
+        any_holds(self.map.values().as_slice(), names, req, obj)
     }
 
     /// The own keys in their order: array indexes ascending, then the others in order of creation
     /// (ECMA-262, section 10.1.11.1).
+    #[tactic(auto, using(crate::proofs::PairsKept::pairs_keys))]
     pub fn keys(&self, alloc: Global) -> Result<Seq<Units>, NoMemory>
         ensures { IfOk result (λ keys. keys ≡ own_keys self.now) }
     {
-        keys_in_order(alloc, &self.map)
+        keys_in_order(alloc, self.map.keys().as_slice())
     }
 
     /// Writes a property: one that is there keeps its place, and a new one goes last.
@@ -124,7 +125,7 @@ impl Props {
         put_entry(&mut self.map, key.into_vec(), value)
     }
 
-    /// Writes a property as `put` does, and copies its key only where it is new.
+    /// Writes a property as `put` does, with a copy of the key.
     pub fn write(&mut self, alloc: Global, key: &[u16], value: Value) -> Result<(), NoMemory>
         ensures ok { OnOk result (self.new ≡ put_prop key.now value self.old) }
         ensures err { OnErr result (self.new ≡ self.old) }
@@ -145,18 +146,13 @@ fn put_entry(map: &mut IndexMap<Vec<u16>, Value>, key: Vec<u16>, value: Value) -
     }
 }
 
-fn keys_in_order(alloc: Global, map: &IndexMap<Vec<u16>, Value>) -> Result<Seq<Units>, NoMemory>
-    ensures { IfOk result (λ keys. keys ≡ own_keys (pairs_of map.now.entries)) }
+fn keys_in_order(alloc: Global, keys: &[Vec<u16>]) -> Result<Seq<Units>, NoMemory>
+    ensures { IfOk result (λ list. list ≡ listed (order_of (map key_units keys.now))) }
 {
     let mut order = KeyOrder::new(alloc);
-    for key in map.keys() {
-        order.add(Seq::copy(alloc, key.as_slice())?)?;
+    for key in keys {
+        let copy = Seq::copy(alloc, key.as_slice())?;
+        order.add(copy)?;
     }
     order.into_keys(alloc)
-}
-
-fn one_holds(entries: &IndexMap<Vec<u16>, Value>, names: &[HandleName], req: Req, obj: Obj) -> bool
-    ensures { result ≡ list_any (value_holds names.now req obj) (map (λ e. e.1) entries.now.entries) }
-{
-    entries.values().any(|value| value_holds(value, names, req, obj))
 }
