@@ -86,11 +86,10 @@ impl Props {
     }
 
     /// The value of the property with this key.
-    #[tactic(auto, using(crate::proofs::PairsKept::pairs_lookup))]
     pub fn get(&self, key: &[u16]) -> Option<Value>
         ensures { result ≡ get_prop key.now self.now }
     {
-        self.map.get(key).copied()
+        find_value(&self.map, key)
     }
 
     /// There is a property with this key.
@@ -105,7 +104,7 @@ impl Props {
     pub fn holds(&self, names: &[HandleName], req: Req, obj: Obj) -> bool
         ensures { result ≡ list_any (value_holds names.now req obj) (map (λ p. p.1) self.now) }
     {
-        any_holds(self.map.values().as_slice(), names, req, obj)
+        any_holds(value_slice(&self.map), names, req, obj)
     }
 
     /// The own keys in their order: array indexes ascending, then the others in order of creation
@@ -114,7 +113,7 @@ impl Props {
     pub fn keys(&self, alloc: Global) -> Result<Seq<Units>, NoMemory>
         ensures { IfOk result (λ keys. keys ≡ own_keys self.now) }
     {
-        keys_in_order(alloc, self.map.keys().as_slice())
+        keys_in_order(alloc, key_slice(&self.map))
     }
 
     /// Writes a property: one that is there keeps its place, and a new one goes last.
@@ -135,6 +134,13 @@ impl Props {
     }
 }
 
+#[tactic(auto, using(crate::proofs::PairsKept::pairs_lookup))]
+fn find_value(map: &IndexMap<Vec<u16>, Value>, key: &[u16]) -> Option<Value>
+    ensures { result ≡ get_prop key.now (pairs_of map.now.entries) }
+{
+    map.get(key).copied()
+}
+
 #[tactic(auto, using(crate::proofs::PairsKept::pairs_insert))]
 fn put_entry(map: &mut IndexMap<Vec<u16>, Value>, key: Vec<u16>, value: Value) -> Result<(), NoMemory>
     ensures ok { OnOk result (pairs_of map.new.entries ≡ put_prop key.items value (pairs_of map.old.entries)) }
@@ -144,6 +150,18 @@ fn put_entry(map: &mut IndexMap<Vec<u16>, Value>, key: Vec<u16>, value: Value) -
         Ok(_) => Ok(()),
         Err(_) => Err(NoMemory),
     }
+}
+
+fn key_slice(entries: &IndexMap<Vec<u16>, Value>) -> &[Vec<u16>]
+    ensures { result.now ≡ map (λ e. e.0) entries.now.entries }
+{
+    entries.keys().as_slice()
+}
+
+fn value_slice(entries: &IndexMap<Vec<u16>, Value>) -> &[Value]
+    ensures { result.now ≡ map (λ e. e.1) entries.now.entries }
+{
+    entries.values().as_slice()
 }
 
 fn keys_in_order(alloc: Global, keys: &[Vec<u16>]) -> Result<Seq<Units>, NoMemory>
