@@ -59,8 +59,7 @@ pub struct Props {
 impl Model for Props {
     ghost use Rattle.std.specs.Prelude.{ℕ, List};
     ghost use Rattle.js_arena.specs.declared.value.Value.{Value as ScriptValue};
-    ghost use Rattle.js_arena.specs.Keys.{listed, order_of, own_keys};
-ghost use Rattle.js_arena.specs.Pairs.{pairs_of};
+    ghost use Rattle.js_arena.specs.Pairs.{pairs_of};
 
     ghost Value = { List (List ℕ × ScriptValue) };
 
