@@ -6,7 +6,7 @@ use Rattle.std.specs.declared.alloc.Global.{Global}
 use Rattle.std.specs.Map.{lookup}
 use Rattle.indexmap.specs.IndexMap.{insert_entry}
 use Rattle.js_arena.specs.declared.value.Value.{Value}
-use Rattle.js_arena.specs.Pairs.{pairs_of}
+use Rattle.js_arena.specs.Pairs.{key_units, pairs_of}
 
 abbrev pub same_key : Vec ℕ Global → Vec ℕ Global → Bool
 same_key a b = bytes_eq a.items b.items
@@ -30,3 +30,11 @@ pub pairs_lookup : (es : List (Vec ℕ Global × Value)) (key : List ℕ) → lo
 pairs_lookup [] key = refl
 pairs_lookup (e ∷ es) key =
     lookup_step (bytes_eq key e.0.items) e.1 (lookup (λ k. bytes_eq key k.items) es) (lookup (bytes_eq key) (pairs_of es)) (pairs_lookup es key)
+
+pub pairs_values : (es : List (Vec ℕ Global × Value)) → map (λ p. p.1) (pairs_of es) ≡ map (λ e. e.1) es
+pairs_values [] = refl
+pairs_values (e ∷ es) = ap (λ (vs : List Value). e.1 ∷ vs) (pairs_values es)
+
+pub pairs_keys : (es : List (Vec ℕ Global × Value)) → map (λ p. p.0) (pairs_of es) ≡ map key_units (map (λ e. e.0) es)
+pairs_keys [] = refl
+pairs_keys (e ∷ es) = ap (λ (ks : List (List ℕ)). e.0.items ∷ ks) (pairs_keys es)

@@ -1,5 +1,5 @@
 -- The order of an object's own keys (ECMA-262, section 10.1.11.1, OrdinaryOwnPropertyKeys).
-use Rattle.std.specs.Prelude.{ℕ, ◌+◌, ◌-◌, ◌*◌, Bool, true, false, ◌&&◌, List, [], ◌∷◌, ◌++◌, map, fold, nat_le, nat_lt, Option, Some, None, if◌then◌else◌}
+use Rattle.std.specs.Prelude.{ℕ, ◌+◌, ◌-◌, ◌*◌, Bool, true, false, ◌&&◌, ◌||◌, ◌==◌, List, [], ◌∷◌, ◌++◌, map, fold, length, nat_le, nat_lt, Option, Some, None, if◌then◌else◌}
 use Rattle.std.specs.List.{list_all}
 use Rattle.std.specs.Ordering.{nat_cmp}
 use Rattle.std.specs.BTreeMap.{insert_entry}
@@ -11,17 +11,15 @@ is_digit c = nat_le 48 c && nat_le c 57
 -- decimal digits with no zero before others
 abbrev pub is_canonical : List ℕ → Bool
 is_canonical [] = false
-is_canonical (c ∷ []) = is_digit c
-is_canonical (c ∷ d ∷ cs) = nat_lt 48 c && nat_le c 57 && list_all is_digit (d ∷ cs)
+is_canonical (c ∷ cs) = list_all is_digit (c ∷ cs) && (nat_lt 48 c || (length cs == 0))
 
--- what digits spell from here on, where those before spell n
-abbrev pub spelled : ℕ → List ℕ → ℕ
-spelled n [] = n
-spelled n (c ∷ cs) = spelled (n * 10 + (c - 48)) cs
+-- the number that decimal digits spell
+abbrev pub spelled : List ℕ → ℕ
+spelled key = fold (λ n c. n * 10 + (c - 48)) 0 key
 
 -- the number of a key that is an array index: below 2 ^ 32 - 1 (ECMA-262, section 6.1.7)
 abbrev pub index_of : List ℕ → Option ℕ
-index_of key = if is_canonical key && nat_lt (spelled 0 key) 4294967295 then Some (spelled 0 key) else None
+index_of key = if is_canonical key && nat_lt (spelled key) 4294967295 then Some (spelled key) else None
 
 -- keys in their order: array indexes with their keys, and the others
 pub record KeyOrder : Type 0 where

@@ -1,3 +1,4 @@
+pub mod Capped
 pub mod Heap
 pub mod Keys
 pub mod Pairs

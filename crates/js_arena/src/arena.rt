@@ -1,15 +1,21 @@
-ghost use Rattle.std.specs.Prelude.{◌≡◌, [], ◌∷◌, ◌++◌, ◌<◌, ◌≤◌, ◌+◌, ◌*◌, length, nat_le, slice_get, slice_set, Option, Some, None, OnOk, OnErr, IfSome, IsNone, true, false, option_map};
+ghost use Rattle.std.specs.Prelude.{◌≡◌, [], ◌∷◌, ◌++◌, ◌<◌, ◌≤◌, ◌+◌, ◌*◌, length, map, nat_le, replicate, slice_get, slice_set, true, false};
+ghost use Rattle.std.specs.Prelude.{Option, Some, None, option_map, IfOk, OnOk, OnErr, IfSome, IsNone};
 ghost use Rattle.std.specs.Option.{option_copied};
-ghost use Rattle.std.specs.List.{list_any, repeat};
+ghost use Rattle.std.specs.List.{list_any};
 ghost use Rattle.js_arena.specs.Props.{put_prop, put_units};
 ghost use Rattle.js_arena.specs.Units.{units};
-ghost use Rattle.js_arena.specs.Heap.{Heap, Adds, cell_at, with_cell, with_variables, with_grown, with_value, with_prop, prop_units, with_item, with_item_at, without_last, without_end, same_kind, more_units, is_variable, is_object, is_array, props_of, items_of, text_of, heap_holds, cell_holds, value_holds};
+ghost use Rattle.js_arena.specs.Heap.{Heap, Adds, AddsCell, AddsVariables, AddsProp, Replaces, cell_at, put_at, push_at, set_at, pop_at};
+ghost use Rattle.js_arena.specs.Heap.{with_value, with_item, with_item_at, without_last, without_end, last_of, same_kind, more_units};
+ghost use Rattle.js_arena.specs.Heap.{is_variable, is_object, is_array, props_of, items_of, text_of, text_in, handle_no, with_handle};
+ghost use Rattle.js_arena.specs.Heap.{heap_holds, cell_holds, value_holds};
 ghost use Rattle.js_arena.specs.declared.value.Cell.TheVariants.{Variable, Array, Object};
 
+use crate::held::{any_holds, value_holds};
 use crate::value::{ArenaEnd, Cell, CellNo, HandleName, HandleNo, Value};
 use indexmap::IndexSet;
 use std::alloc::Global;
 use std::marker::Model;
+use std::mem;
 use wd_base::{NoMemory, Obj, Req, Seq, Units};
 
 /// The heap of a script: its cells, with the units that they took and may take. Contracts see a
@@ -70,7 +76,7 @@ fn push_cell(cells: &mut Vec<Cell>, cell: Cell) -> Result<(), NoMemory>
     }
 }
 
-/// The script writes the property of an object.
+/// Writes a property of the object.
 fn put_into(cell: &mut Cell, alloc: Global, key: &[u16], value: Value) -> Result<(), NoMemory>
     requires { is_object (Some cell.old) ≡ true }
     ensures ok { OnOk result (cell.new ≡ Object (put_prop key.now value (props_of (Some cell.old)))) }
@@ -82,9 +88,15 @@ fn put_into(cell: &mut Cell, alloc: Global, key: &[u16], value: Value) -> Result
     }
 }
 
-fn put_at(cells: &mut Vec<Cell>, at: usize, alloc: Global, key: &[u16], value: Value) -> Result<(), NoMemory>
+fn put_at(
+    cells: &mut Vec<Cell>,
+    at: usize,
+    alloc: Global,
+    key: &[u16],
+    value: Value,
+) -> Result<(), NoMemory>
     requires { is_object (slice_get cells.old.items at) ≡ true }
-    ensures ok { OnOk result (cells.new.items ≡ slice_set cells.old.items at (Object (put_prop key.now value (props_of (slice_get cells.old.items at))))) }
+    ensures ok { OnOk result (cells.new.items ≡ put_at at key.now value cells.old.items) }
     ensures err { OnErr result (cells.new.items ≡ cells.old.items) }
 {
     put_into(&mut cells[at], alloc, key, value)
@@ -114,7 +126,7 @@ fn push_item(cell: &mut Cell, value: Value) -> Result<(), NoMemory>
 
 fn push_at(cells: &mut Vec<Cell>, at: usize, value: Value) -> Result<(), NoMemory>
     requires { is_array (slice_get cells.old.items at) ≡ true }
-    ensures ok { OnOk result (cells.new.items ≡ slice_set cells.old.items at (Array (items_of (slice_get cells.old.items at) ++ value ∷ []))) }
+    ensures ok { OnOk result (cells.new.items ≡ push_at at value cells.old.items) }
     ensures err { OnErr result (cells.new.items ≡ cells.old.items) }
 {
     push_item(&mut cells[at], value)
@@ -134,9 +146,93 @@ fn set_in(cell: &mut Cell, index: usize, value: Value)
 fn set_at(cells: &mut Vec<Cell>, at: usize, index: usize, value: Value)
     requires array { is_array (slice_get cells.old.items at) ≡ true }
     requires within { index < length (items_of (slice_get cells.old.items at)) }
-    ensures { cells.new.items ≡ slice_set cells.old.items at (Array (slice_set (items_of (slice_get cells.old.items at)) index value)) }
+    ensures { cells.new.items ≡ set_at at index value cells.old.items }
 {
     set_in(&mut cells[at], index, value)
+}
+
+/// Takes the last item away.
+fn pop_item(alloc: Global, items: &mut Seq<Value>) -> Option<Value>
+    ensures value { result ≡ last_of items.old }
+    ensures items { items.new ≡ without_end items.old }
+{
+    let mut rest = mem::replace(items, Seq::new(alloc)).into_vec();
+    let last = rest.pop();
+    *items = Seq::from_vec(rest);
+    last
+}
+
+fn pop_in(alloc: Global, cell: &mut Cell) -> Option<Value>
+    requires { is_array (Some cell.old) ≡ true }
+    ensures value { result ≡ last_of (items_of (Some cell.old)) }
+    ensures cell { cell.new ≡ Array (without_end (items_of (Some cell.old))) }
+{
+    match cell {
+        Cell::Array(items) => pop_item(alloc, items),
+        _ => unreachable!(),
+    }
+}
+
+fn pop_at(alloc: Global, cells: &mut Vec<Cell>, at: usize) -> Option<Value>
+    requires { is_array (slice_get cells.old.items at) ≡ true }
+    ensures value { result ≡ last_of (items_of (slice_get cells.old.items at)) }
+    ensures cells { cells.new.items ≡ pop_at at cells.old.items }
+{
+    pop_in(alloc, &mut cells[at])
+}
+
+/// The units by which a cell passes that at a place.
+fn units_more(cells: &Vec<Cell>, at: usize, cell: &Cell) -> u128
+    requires { at < length cells.now.items }
+    ensures { result ≡ more_units (slice_get cells.now.items at) cell.now }
+{
+    units_of(cell).saturating_sub(units_of(&cells[at]))
+}
+
+/// Adds variables that are not initialised at the end.
+#[tactic(auto, using(crate::proofs::Rows::rows_more, crate::proofs::Rows::rows_back))]
+fn push_variables(cells: &mut Vec<Cell>, count: u32) -> Result<(), NoMemory>
+    ensures ok { OnOk result (cells.new.items ≡ cells.old.items ++ replicate count (Variable None)) }
+    ensures err { OnErr result (cells.new.items ≡ cells.old.items) }
+{
+    let before = cells.len();
+    for at in 0..count {
+        if push_cell(cells, Cell::Variable(None)).is_err() {
+            cells.truncate(before);
+            return Err(NoMemory);
+        }
+    }
+    Ok(())
+}
+
+fn text_at(texts: &Seq<Units>, at: usize) -> Option<&[u16]>
+    ensures { option_map (λ t. t.now) result ≡ slice_get texts.now at }
+{
+    match texts.get(at) {
+        Some(text) => Some(text.as_slice()),
+        None => None,
+    }
+}
+
+fn text_in(cells: &Vec<Cell>, at: usize) -> Option<&[u16]>
+    ensures { option_map (λ t. t.now) result ≡ text_in (slice_get cells.now.items at) }
+{
+    match cells.get(at) {
+        Some(Cell::Text(text)) => Some(text.as_slice()),
+        _ => None,
+    }
+}
+
+/// The cell holds a handle of the object.
+fn cell_holds(cell: &Cell, names_of: &[HandleName], req: Req, obj: Obj) -> bool
+    ensures { result ≡ cell_holds names_of.now req obj cell.now }
+{
+    match cell {
+        Cell::Variable(Some(value)) => value_holds(value, names_of, req, obj),
+        Cell::Object(props) => props.holds(names_of, req, obj),
+        Cell::Array(items) => any_holds(items.as_slice(), names_of, req, obj),
+        _ => false,
+    }
 }
 
 impl Arena {
@@ -171,7 +267,7 @@ impl Arena {
 
     /// A new cell, for its units.
     pub fn alloc_cell(&mut self, cell: Cell) -> Result<CellNo, ArenaEnd>
-        ensures { Adds self.old (units cell) (λ no. (no.0 ≡ length self.old.cells) × (self.new ≡ with_cell cell self.old)) self.new result }
+        ensures { AddsCell cell self.old self.new result }
     {
         let added = units_of(&cell);
         let Some(total) = room(self.total, self.limit, added) else {
@@ -210,10 +306,10 @@ impl Arena {
         self.cells[no.0 as usize] = Cell::Variable(Some(value));
     }
 
-    /// Writes a property of an object: 4 units where it is a new one. The key is copied only then.
+    /// Writes a property of an object, for 4 units where it is a new one.
     pub fn put(&mut self, alloc: Global, no: CellNo, key: &[u16], value: Value) -> Result<(), ArenaEnd>
         requires { is_object (cell_at self.old no) ≡ true }
-        ensures { Adds self.old (prop_units no key.now self.old) (λ _. self.new ≡ with_prop no key.now value self.old) self.new result }
+        ensures { AddsProp no key.now value self.old self.new result }
     {
         let added = put_cost(&self.cells, no.0 as usize, key);
         let Some(total) = room(self.total, self.limit, added) else {
@@ -252,5 +348,83 @@ impl Arena {
         ensures { self.new ≡ with_item_at no index value self.old }
     {
         set_at(&mut self.cells, no.0 as usize, index, value)
+    }
+
+    /// Takes the last item of an array away. Its units are not given back.
+    pub fn pop(&mut self, alloc: Global, no: CellNo) -> Option<Value>
+        requires { is_array (cell_at self.old no) ≡ true }
+        ensures value { result ≡ last_of (items_of (cell_at self.old no)) }
+        ensures heap { self.new ≡ without_last no self.old }
+    {
+        pop_at(alloc, &mut self.cells, no.0 as usize)
+    }
+
+    /// Puts another cell of the same kind in the place of a cell, for the units by which it passes the old one.
+    pub fn replace(&mut self, no: CellNo, cell: Cell) -> Result<(), ArenaEnd>
+        requires { same_kind (cell_at self.old no) cell ≡ true }
+        ensures { Replaces no cell self.old self.new result }
+    {
+        let added = units_more(&self.cells, no.0 as usize, &cell);
+        let Some(total) = room(self.total, self.limit, added) else {
+            return Err(ArenaEnd::Full);
+        };
+        self.cells[no.0 as usize] = cell;
+        self.total = total;
+        Ok(())
+    }
+
+    /// New variables in a row that are not initialised, for 2 units each; the number is that of the first.
+    #[tactic(auto, using(crate::proofs::Rows::rows_length))]
+    pub fn variables(&mut self, count: u32) -> Result<CellNo, ArenaEnd>
+        ensures { AddsVariables count self.old self.new result }
+    {
+        let Some(total) = room(self.total, self.limit, 2 * count as u128) else {
+            return Err(ArenaEnd::Full);
+        };
+        let no = CellNo(self.cells.len() as u32);
+        match push_variables(&mut self.cells, count) {
+            Ok(()) => {
+                self.total = total;
+                Ok(no)
+            }
+            Err(_) => Err(ArenaEnd::NoMemory),
+        }
+    }
+
+    /// The units of a string, and None for any other value.
+    pub fn text(&self, value: Value) -> Option<&[u16]>
+        ensures { option_map (λ t. t.now) result ≡ text_of value self.now }
+    {
+        match value {
+            Value::Literal(number) => text_at(&self.texts, number as usize),
+            Value::Text(no) => text_in(&self.cells, no.0 as usize),
+            _ => None,
+        }
+    }
+
+    /// The number of a handle's name: its own, or a new one. It takes no units.
+    pub fn hand(&mut self, name: HandleName) -> Result<HandleNo, NoMemory>
+        ensures ok { IfOk result (λ no. (no.0 ≡ handle_no name self.old.handles) × (self.new ≡ with_handle name self.old)) }
+        ensures err { OnErr result (self.new ≡ self.old) }
+    {
+        match self.hands.insert_full(name) {
+            Ok((at, _)) => Ok(HandleNo(at)),
+            Err(_) => Err(NoMemory),
+        }
+    }
+
+    /// What a handle names, and None where the heap has no such number.
+    pub fn handle(&self, no: HandleNo) -> Option<HandleName>
+        ensures { result ≡ slice_get self.now.handles no.0 }
+    {
+        self.hands.get_index(no.0).copied()
+    }
+
+    /// A cell holds a handle of this object. A handle of an event is one of object 0 as well.
+    pub fn held(&self, req: Req, obj: Obj) -> bool
+        ensures { result ≡ heap_holds req obj self.now }
+    {
+        let names = self.hands.as_slice();
+        self.cells.iter().any(|cell| cell_holds(cell, names, req, obj))
     }
 }

@@ -2,8 +2,11 @@
 #![tactic(auto)]
 
 mod arena;
+mod held;
 mod keys;
 mod props;
+#[cfg(test)]
+mod tests;
 mod value;
 
 pub use arena::Arena;
