@@ -4,6 +4,7 @@ pub mod Found
 pub mod Same
 pub mod Ends
 pub mod Entries
+pub mod Duties
 pub mod Rules
 pub mod Steps
 pub mod First

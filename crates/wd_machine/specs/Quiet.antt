@@ -183,16 +183,7 @@ live_lawful q is s t = let does : DoesLittle t.wake (quiet_out (q.reply s) q.ste
 }
 
 dead_lawful : {S : Type 0} (q : Quiet S) (s : S) (t : TurnIn) → IsDeadTurn (quiet_means q) s t (dead_turn s t)
-dead_lawful q s t = record {
-  out = refl;
-  objects = refl;
-  held = refl;
-  started = λ req. refl;
-  generation = refl;
-  condemned = refl;
-  worker = refl;
-  workers = refl;
-}
+dead_lawful q s t = record { out = refl; objects = refl; isolate = refl }
 
 and_false : (b : Bool) → (b && false) ≡ false
 and_false true = refl
