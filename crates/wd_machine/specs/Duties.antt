@@ -54,6 +54,11 @@ is_met rows (ToArrive parent op target allow request) = false
 is_met rows (ToAnswer parent op reply) = false
 is_met rows (Children req) = not (is_some (least_child req rows))
 
+-- the front duty is met without any entry
+abbrev pub front_is_met : List RequestState → List Duty → Bool
+front_is_met rows [] = false
+front_is_met rows (d ∷ rest) = is_met rows d
+
 -- the duties from the first one that is not met without any entry
 abbrev pub settle : List RequestState → List Duty → List Duty
 settle rows [] = []
@@ -111,12 +116,21 @@ owes duty t = record t { duties = cons_option duty t.duties }
 abbrev pub owes_arrivals : {I : Type 0} → List (WorkerState I) → Req → List OpStart → SeatState → SeatState
 owes_arrivals workers req ops t = record t { duties = with_arrivals workers req ops t.duties }
 
--- the duties when the entry of the front one was taken; that of a request's children stays while there are any
+-- the duty is met by one entry; that of a request's children stays while there are any
+abbrev pub is_single : Duty → Bool
+is_single (ToArrive parent op target allow request) = true
+is_single (ToAnswer parent op reply) = true
+is_single (Children req) = false
+
+-- the front duty is met by one entry
+abbrev pub front_is_single : List Duty → Bool
+front_is_single [] = false
+front_is_single (d ∷ rest) = is_single d
+
+-- the duties when an entry that meets the front one was taken
 abbrev pub rest_of : List Duty → List Duty
 rest_of [] = []
-rest_of (ToArrive parent op target allow request ∷ rest) = rest
-rest_of (ToAnswer parent op reply ∷ rest) = rest
-rest_of (Children req ∷ rest) = Children req ∷ rest
+rest_of (d ∷ rest) = if is_single d then rest else d ∷ rest
 
 -- the seat has met its front duty
 abbrev pub meets_duty : SeatState → SeatState

@@ -9,7 +9,6 @@ use Rattle.wd_base.specs.declared.objects.IoObject.{IoObject}
 use Rattle.wd_machine.specs.declared.state.Pending.{Pending}
 use Rattle.wd_machine.specs.declared.state.RequestState.{RequestState}
 use Rattle.wd_machine.specs.declared.state.Waiter.{Waiter}
-use Rattle.wd_machine.specs.declared.turn.Out.{Out}
 use Rattle.wd_machine.specs.Meaning.{has_obj}
 
 -- the name of the field
@@ -63,10 +62,6 @@ or_failure (Some why) reply = Some (failure why)
 -- the reply that stands in the entry: the turn's, or that of a request whose generation is over or of which nothing is left
 abbrev pub whole_reply : RequestState → Bool → Pending → Option Reply
 whole_reply r waiting p = or_failure (lost_why (is_settled r p) p.dead (is_idle r waiting p)) p.out.reply
-
--- the `Out` that stands in the entry
-abbrev pub whole_out : RequestState → Bool → Pending → Out
-whole_out r waiting p = record p.out { reply = whole_reply r waiting p }
 
 -- the request takes no reply any more: it has one, or its caller is gone
 abbrev pub is_deaf : RequestState → Bool

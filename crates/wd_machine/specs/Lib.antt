@@ -1,6 +1,7 @@
 pub mod Meaning
 pub mod Keyed
 pub mod Found
+pub mod Places
 pub mod Same
 pub mod Ends
 pub mod Entries

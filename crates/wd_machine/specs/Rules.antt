@@ -2,6 +2,7 @@
 use Rattle.std.specs.Prelude.{ℕ, ◌≡◌, ◌↔◌, ◌==◌, nat_lt, nat_le, Bool, true, false, not, ◌&&◌, ◌||◌, List, [], ◌∷◌, length, Option, Some, None, is_some, is_none, IsTrue}
 use Rattle.std.specs.List.{find}
 use Rattle.wd_base.specs.declared.config.Config.{Config}
+use Rattle.wd_base.specs.declared.config.Service.{Service}
 use Rattle.wd_base.specs.declared.ids.Req.{Req}
 use Rattle.wd_base.specs.declared.objects.Origin.{Origin}
 use Rattle.wd_base.specs.declared.objects.Origin.TheVariants.{Outside, Child, Caller}
@@ -46,10 +47,14 @@ abbrev pub is_part : Head → Bool
 is_part Whole = false
 is_part (Part service) = true
 
+-- both are services, and the first reaches the second
+abbrev pub IsReachedFrom : List Service → List ℕ → List ℕ → Type 0
+IsReachedFrom services from name = IsTrue (has_name services from) × (IsTrue (has_name services name) × Reaches services from name)
+
 -- requests may arrive from outside at the service: in a whole journal a socket answers for it, in a part the part's service reaches it
 abbrev pub IsOpen : Config → Head → List ℕ → Type 0
 IsOpen world Whole name = IsTrue (is_public world name)
-IsOpen world (Part service) name = IsTrue (has_name world.services service) × (IsTrue (has_name world.services name) × Reaches world.services service name)
+IsOpen world (Part service) name = IsReachedFrom world.services service name
 
 -- what a head says in a world
 pub record AreTerms (world : Config) (head : Head) (terms : Terms) : Type 0 where
@@ -103,12 +108,16 @@ abbrev pub broken_field : Option OutField → Option Refused
 broken_field None = None
 broken_field (Some field) = Some (record { rule = 15; kept = Field field })
 
--- A14 and A15: the seat runs the request's turn, and the `Out` is what it did, with the reply that the turn's end gives
+-- A14 and A15: the turn that runs is the request's, and the `Out` is what it did, with the reply that the turn's end gives
+abbrev pub broken_running : {I : Type 0} → Pending → List RequestState → List (WorkerState I) → ℕ → Out → Option Refused
+broken_running p rows workers req out =
+    unless (p.req.0 == req) 14 (Number p.req.0)
+    (broken_field (first_difference (entry_out p rows workers) out))
+
+-- A14 and A15 of what a seat runs, if it runs a turn
 abbrev pub broken_turn : {I : Type 0} → Option Pending → List RequestState → List (WorkerState I) → ℕ → Out → Option Refused
 broken_turn None rows workers req out = Some (record { rule = 14; kept = Nothing })
-broken_turn (Some p) rows workers req out =
-    unless (p.req.0 == req) 14 (Number p.req.0)
-    (broken_field (first_difference (entry_out p (request_of p.req.0 rows) workers) out))
+broken_turn (Some p) rows workers req out = broken_running p rows workers req out
 
 -- the operation is this one
 abbrev pub is_op : ℕ → Flight → Bool

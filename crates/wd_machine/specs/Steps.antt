@@ -18,6 +18,7 @@ use Rattle.wd_base.specs.declared.objects.Wake.TheVariants.{Start, Done, Cross, 
 use Rattle.wd_graph.specs.Names.{same_name}
 use Rattle.wd_machine.specs.declared.journal.Entry.{Entry}
 use Rattle.wd_machine.specs.declared.journal.Entry.TheVariants.{Arrive, Begin, Turn, Answer, Served, Cancel, Drain}
+use Rattle.wd_machine.specs.declared.state.Conclusion.{Conclusion}
 use Rattle.wd_machine.specs.declared.state.Duty.{Duty}
 use Rattle.wd_machine.specs.declared.state.Flight.{Flight}
 use Rattle.wd_machine.specs.declared.state.Pending.{Pending}
@@ -28,7 +29,7 @@ use Rattle.wd_machine.specs.declared.state.Waiter.{Waiter}
 use Rattle.wd_machine.specs.declared.state.WorkerState.{WorkerState}
 use Rattle.wd_machine.specs.declared.turn.Out.{Out}
 use Rattle.wd_machine.specs.Duties.{owes, owes_arrivals, meets_duty, settles, answer, children_if}
-use Rattle.wd_machine.specs.Ends.{is_waiter, waits_in, ends, whole_reply, whole_out, given_reply, without, kept_objects}
+use Rattle.wd_machine.specs.Ends.{is_waiter, waits_in, ends, whole_reply, given_reply, without, kept_objects}
 use Rattle.wd_machine.specs.Found.{is_request, is_seat, is_worker, request_of, seat_at, worker_of, waiters_at, running_in, due_in}
 use Rattle.wd_machine.specs.Keyed.{change}
 use Rattle.wd_machine.specs.Meaning.{Meaning, TurnIn, TurnGives, spent, is_dead_wake}
@@ -263,6 +264,11 @@ RunsFront m w r (x ∷ rest) w' r' ran =
     × (w' ≡ taken_by r.req (m.turn w.isolate (turn_in (turn_generation r w) r x.wake)).isolate rest w)
     × (r' ≡ starts_turn (turn_generation r w) r)
 
+-- the seat runs the turn that was made, if one was
+abbrev pub ran : {I : Type 0} → ℕ → Option Pending → State I → State I
+ran seat None s = s
+ran seat (Some p) s = change_seat seat (runs p) s
+
 -- the state in which the seat runs a turn that was made
 abbrev pub begun_with : {I : Type 0} → Seat → RequestState → ℕ → Bool → TurnGives I → List Waiter → State I → State I
 begun_with seat r generation dead gives rest s = record s {
@@ -371,9 +377,9 @@ noted req released s = record s { seats = noted_in s.requests (request_of req s.
 abbrev pub condemned : {I : Type 0} → Bool → ℕ → State I → State I
 condemned is req s = change_worker req (gives_up_if is s.requests) s
 
--- the seat owes the children's cancels, if the request has ended
-abbrev pub owing_children : {I : Type 0} → ℕ → Req → Bool → State I → State I
-owing_children seat req over s = change_seat seat (owes (children_if over req)) s
+-- the seat owes one more duty, if there is one
+abbrev pub owing : {I : Type 0} → ℕ → Option Duty → State I → State I
+owing seat duty s = change_seat seat (owes duty) s
 
 -- the duty of a request's reply, if there is the request
 abbrev pub answer_of : List RequestState → Option RequestState → Option Reply → Option Duty
@@ -382,7 +388,7 @@ answer_of rows (Some r) reply = answer rows r.origin reply
 
 -- the seat owes the answer to the parent, if there is a reply and the parent waits for it
 abbrev pub owing_answer : {I : Type 0} → ℕ → ℕ → Option Reply → State I → State I
-owing_answer seat req reply s = change_seat seat (owes (answer_of s.requests (request_of req s.requests) reply)) s
+owing_answer seat req reply s = owing seat (answer_of s.requests (request_of req s.requests) reply) s
 
 -- the seat owes the arrivals of the operations to Workers
 abbrev pub owing_arrivals : {I : Type 0} → ℕ → Req → List OpStart → State I → State I
@@ -391,53 +397,62 @@ owing_arrivals seat req ops s = change_seat seat (owes_arrivals s.workers req op
 -- what follows for the seat from an end, a reply and operations: the new duties, each kind in front of the one before it
 abbrev pub followed : {I : Type 0} → ℕ → Req → Bool → Option Reply → List OpStart → State I → State I
 followed seat req over reply ops s =
-    settled seat (owing_arrivals seat req ops (owing_answer seat req.0 reply (owing_children seat req over s)))
+    settled seat (owing_arrivals seat req ops (owing_answer seat req.0 reply (owing seat (children_if over req) s)))
 
 -- the turn left a heap that is too large; a condemned turn's is given up anyway
 abbrev pub leaves_heavy : Out → Bool
 leaves_heavy out = out.heavy && not out.condemned
 
 -- what a turn did is done: to its Worker and its request, and to the requests beside it
-abbrev pub worked : {I : Type 0} → Pending → State I → State I
-worked p s =
-    noted p.req.0 p.out.released
-    (crossed p.req.0 p.out.cross
-    (committed p.req.0 p.out p.objects
-    (returned p.req.0 (leaves_heavy p.out) s)))
+abbrev pub worked : {I : Type 0} → ℕ → Out → List IoObject → State I → State I
+worked req out objects s =
+    noted req out.released (crossed req out.cross (committed req out objects (returned req (leaves_heavy out) s)))
 
 -- what comes of a turn for its request: a reply, its end, the end of a condemned heap, and the duties of the seat
 abbrev pub concluded : {I : Type 0} → ℕ → Req → Bool → Bool → Option Reply → List OpStart → State I → State I
 concluded seat req over is_condemned reply ops s =
     followed seat req over reply ops (condemned is_condemned req.0 (ended_if over req.0 (replied req.0 reply s)))
 
--- the turn of a request that is there is done
-abbrev pub done_in : {I : Type 0} → ℕ → Pending → Bool → RequestState → State I → State I
-done_in seat p waiting r s =
-    concluded seat p.req (ends r waiting p) p.out.condemned (given_reply r (whole_reply r waiting p)) p.out.ops (worked p s)
+-- what comes of a turn: whether the request ends, the reply of the entry, and the one that the request gets
+abbrev pub conclusion_of : RequestState → Bool → Pending → Conclusion
+conclusion_of r waiting p = record { over = ends r waiting p; whole = whole_reply r waiting p; given = given_reply r (whole_reply r waiting p) }
 
 -- the same where the request is looked up
-abbrev pub done_by : {I : Type 0} → ℕ → Pending → Option RequestState → State I → State I
-done_by seat p None s = s
-done_by seat p (Some r) s = done_in seat p (waits_in r.req.0 (waiters_at (worker_of r.service s.workers))) r s
+abbrev pub conclusion : {I : Type 0} → Pending → Option RequestState → List (WorkerState I) → Option Conclusion
+conclusion p None workers = None
+conclusion p (Some r) workers = Some (conclusion_of r (waits_in r.req.0 (waiters_at (worker_of r.service workers))) p)
+
+-- the turn of a request that is there is done
+abbrev pub done_with : {I : Type 0} → ℕ → Pending → Option Conclusion → State I → State I
+done_with seat p None s = s
+done_with seat p (Some c) s = concluded seat p.req c.over p.out.condemned c.given p.out.ops (worked p.req.0 p.out p.objects s)
+
+-- the turn is done
+abbrev pub done : {I : Type 0} → ℕ → Pending → State I → State I
+done seat p s = done_with seat p (conclusion p (request_of p.req.0 s.requests) s.workers) s
 
 -- the turn that the seat ran is done, if it ran one
 abbrev pub turned_with : {I : Type 0} → ℕ → Option Pending → State I → State I
 turned_with seat None s = s
-turned_with seat (Some p) s = done_by seat p (request_of p.req.0 s.requests) s
+turned_with seat (Some p) s = done seat p s
 
 -- Turn: what the turn that the seat runs did is done, and the isolate and the seat are free again
 abbrev pub turned : {I : Type 0} → Seat → State I → State I
 turned seat s = turned_with seat.0 (running_in (seat_at seat.0 s.seats)) (change_seat seat.0 rests s)
 
+-- the `Out` with the reply of the entry
+abbrev pub out_with : Out → Option Conclusion → Out
+out_with out None = out
+out_with out (Some c) = record out { reply = c.whole }
+
 -- the `Out` of the entry for a turn that a seat runs
-abbrev pub entry_out : {I : Type 0} → Pending → Option RequestState → List (WorkerState I) → Out
-entry_out p None workers = p.out
-entry_out p (Some r) workers = whole_out r (waits_in r.req.0 (waiters_at (worker_of r.service workers))) p
+abbrev pub entry_out : {I : Type 0} → Pending → List RequestState → List (WorkerState I) → Out
+entry_out p rows workers = out_with p.out (conclusion p (request_of p.req.0 rows) workers)
 
 -- the `Out` of a seat's Turn, if it runs one
 abbrev pub turn_out : {I : Type 0} → Option Pending → List RequestState → List (WorkerState I) → Option Out
 turn_out None rows workers = None
-turn_out (Some p) rows workers = Some (entry_out p (request_of p.req.0 rows) workers)
+turn_out (Some p) rows workers = Some (entry_out p rows workers)
 
 -- the end of a request with a reply or none, and what follows
 abbrev pub closed : {I : Type 0} → ℕ → Req → Option Reply → State I → State I

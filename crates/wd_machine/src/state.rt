@@ -43,6 +43,15 @@ pub struct Pending {
     pub dead: bool,
 }
 
+/// What comes of a turn that has ended: whether its request ends, the reply that stands in the
+/// entry, and the one that the request gets.
+#[derive(Debug, Drop)]
+pub struct Conclusion {
+    pub over: bool,
+    pub whole: Option<Reply>,
+    pub given: Option<Reply>,
+}
+
 /// A request that has arrived.
 #[derive(Debug, Drop)]
 pub struct RequestState {
