@@ -1,4 +1,5 @@
 pub mod FirstLemmas
 pub mod KeyedLemmas
 pub mod SameLemmas
+pub mod StepLemmas
 pub mod WaitLemmas

@@ -10,4 +10,5 @@ pub mod Rules
 pub mod Steps
 pub mod First
 pub mod Runs
+pub mod History
 pub mod Quiet

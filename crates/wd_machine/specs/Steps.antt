@@ -1,6 +1,6 @@
 -- What each entry changes: a chain of changes of the state, each with a name.
-use Rattle.std.specs.Prelude.{ℕ, ◌-◌, ◌==◌, ◌^◌, nat_lt, min, Bool, true, false, not, ◌&&◌, ◌||◌, if◌then◌else◌, List, [], ◌∷◌, ◌++◌, filter, map, Option, Some, None, is_some, unwrap_or}
-use Rattle.std.specs.List.{list_any, fold}
+use Rattle.std.specs.Prelude.{ℕ, ◌-◌, ◌==◌, ◌^◌, nat_lt, min, Bool, true, false, not, ◌&&◌, ◌||◌, if◌then◌else◌, List, [], ◌∷◌, ◌++◌, filter, length, map, Option, Some, None, is_some, unwrap_or}
+use Rattle.std.specs.List.{list_any, fold, insert, position_from}
 use Rattle.wd_base.specs.declared.http.Reply.{Reply}
 use Rattle.wd_base.specs.declared.http.ReqData.{ReqData}
 use Rattle.wd_base.specs.declared.ids.JobNo.{JobNo}
@@ -139,10 +139,17 @@ is_spent rows generation w = w.heavy && (is_of w.generation generation && not (l
 abbrev pub lightened : {I : Type 0} → List RequestState → Option ℕ → WorkerState I → WorkerState I
 lightened rows generation w = if is_spent rows generation w then renewed w else w
 
--- the numbers with one more, in ascending order
+-- the number is not less than the request's
+abbrev pub is_above : Req → Req → Bool
+is_above req x = not (nat_lt x.0 req.0)
+
+-- the place of a request among ascending ones: in front of the first that is not less
+abbrev pub rank : Req → List Req → ℕ
+rank req reqs = unwrap_or (position_from (is_above req) 0 reqs) (length reqs)
+
+-- the requests with one more, in ascending order
 abbrev pub placed : Req → List Req → List Req
-placed req [] = req ∷ []
-placed req (x ∷ rest) = if nat_lt x.0 req.0 then x ∷ placed req rest else req ∷ x ∷ rest
+placed req reqs = insert reqs (rank req reqs) req
 
 -- the request lives in the Worker's generation and waits for no turn
 abbrev pub is_stranded : {I : Type 0} → WorkerState I → RequestState → Bool
@@ -374,8 +381,8 @@ abbrev pub noted : {I : Type 0} → ℕ → List ObjName → State I → State I
 noted req released s = record s { seats = noted_in s.requests (request_of req s.requests) released s.seats }
 
 -- the Worker's heap is given up, where the turn was condemned
-abbrev pub condemned : {I : Type 0} → Bool → ℕ → State I → State I
-condemned is req s = change_worker req (gives_up_if is s.requests) s
+abbrev pub given_up : {I : Type 0} → Bool → ℕ → State I → State I
+given_up is_condemned req s = change_worker req (gives_up_if is_condemned s.requests) s
 
 -- the seat owes one more duty, if there is one
 abbrev pub owing : {I : Type 0} → ℕ → Option Duty → State I → State I
@@ -411,7 +418,7 @@ worked req out objects s =
 -- what comes of a turn for its request: a reply, its end, the end of a condemned heap, and the duties of the seat
 abbrev pub concluded : {I : Type 0} → ℕ → Req → Bool → Bool → Option Reply → List OpStart → State I → State I
 concluded seat req over is_condemned reply ops s =
-    followed seat req over reply ops (condemned is_condemned req.0 (ended_if over req.0 (replied req.0 reply s)))
+    followed seat req over reply ops (given_up is_condemned req.0 (ended_if over req.0 (replied req.0 reply s)))
 
 -- what comes of a turn: whether the request ends, the reply of the entry, and the one that the request gets
 abbrev pub conclusion_of : RequestState → Bool → Pending → Conclusion

@@ -9,7 +9,7 @@ ghost use Rattle.wd_machine.specs.Keyed.{change};
 ghost use Rattle.wd_machine.specs.Places.{place_for};
 ghost use Rattle.wd_machine.specs.Rules.{broken, broken_duty, broken_entry, broken_arrive, broken_begin, broken_turn, broken_running, broken_answer, broken_served, broken_cancel, broken_drain};
 ghost use Rattle.wd_machine.specs.First.{AreFirst, AreFirstOf, first_state, first_workers, first_seats, idle_worker, idle_seat};
-ghost use Rattle.wd_machine.specs.Steps.{step, waits_too, has_due, added, registered, met, settled, arrived, landed, answered, begun, ran, emptied, unwaited, spared, ended, ended_if, returned, committed, replied, crossed, crossed_to, crossed_by, crossed_in, noted, noted_for, noted_by, noted_in, condemned, owing_answer, owing_arrivals, owing, followed, leaves_heavy, worked, concluded, conclusion, conclusion_of, done, turned, turn_out, closed, served, detached, cancelled_if, cancelled, freed_by, drained, change_seat, rests, generation_of, out_with, entry_out};
+ghost use Rattle.wd_machine.specs.Steps.{step, waits_too, has_due, added, registered, met, settled, arrived, landed, answered, begun, ran, emptied, unwaited, spared, ended, ended_if, returned, committed, replied, crossed, crossed_to, crossed_by, crossed_in, noted, noted_for, noted_by, noted_in, given_up, owing_answer, owing_arrivals, owing, followed, leaves_heavy, worked, concluded, conclusion, conclusion_of, done, turned, turn_out, closed, served, detached, cancelled_if, cancelled, freed_by, drained, change_seat, rests, generation_of, out_with, entry_out};
 
 use crate::compare::first_difference;
 use crate::ends::{ends, given_reply, whole_reply};
@@ -269,7 +269,7 @@ impl<I> Machine<I> {
 
     /// The heap of the request's Worker is given up, where its turn was condemned.
     fn condemn(&mut self, condemned: bool, req: Req) -> Result<(), NoMemory>
-        ensures { OnOk result (self.new ≡ condemned condemned req.0 self.old) }
+        ensures { OnOk result (self.new ≡ given_up condemned req.0 self.old) }
     {
         let alloc = *self.requests.allocator();
         let Some(at) = self.worker_place(req) else {

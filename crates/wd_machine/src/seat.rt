@@ -210,10 +210,10 @@ pub fn owes_arrivals<I>(
 }
 
 /// The answer to an operation, while it has not ended.
-fn answer_if(flies: bool, parent: Req, op: Op, reply: Reply) -> Option<Duty>
-    ensures { result ≡ answer_if flies parent op reply }
+fn answer_if(in_flight: bool, parent: Req, op: Op, reply: Reply) -> Option<Duty>
+    ensures { result ≡ answer_if in_flight parent op reply }
 {
-    if flies {
+    if in_flight {
         Some(Duty::Answer { parent, op, reply })
     } else {
         None
@@ -226,8 +226,8 @@ fn answer_to(rows: &[RequestState], origin: Origin, reply: Reply) -> Option<Duty
 {
     match origin {
         Origin::Child(parent, op) => {
-            let flies = flies(op.0, request_named(rows, parent));
-            answer_if(flies, parent, op, reply)
+            let in_flight = flies(op.0, request_named(rows, parent));
+            answer_if(in_flight, parent, op, reply)
         }
         _ => None,
     }

@@ -1,8 +1,8 @@
-ghost use Rattle.std.specs.Prelude.{◌≡◌, ◌∷◌, ◌++◌, ◌&&◌, [], not, filter, map, OnOk, IfOk};
+ghost use Rattle.std.specs.Prelude.{◌≡◌, ◌≤◌, ◌∷◌, ◌++◌, ◌&&◌, [], not, filter, length, map, OnOk, IfOk};
 ghost use Rattle.std.specs.List.{fold, list_any};
 ghost use Rattle.wd_machine.specs.Ends.{is_waiter, waits_in};
 ghost use Rattle.wd_machine.specs.Meaning.{is_dead_wake};
-ghost use Rattle.wd_machine.specs.Steps.{waits_too, is_free, is_other, waits_without, raised, renewed, is_of, lives_in, is_spent, lightened, placed, is_stranded, with_stranded, stranded, dead_waiter, gives_up, gives_up_if, same_generation, lives_beside, RunsFront, turn_generation, is_dead_turn};
+ghost use Rattle.wd_machine.specs.Steps.{waits_too, is_free, is_other, waits_without, raised, renewed, is_of, lives_in, is_spent, lightened, is_above, rank, placed, is_stranded, with_stranded, stranded, dead_waiter, gives_up, gives_up_if, same_generation, lives_beside, RunsFront, turn_generation, is_dead_turn};
 
 use crate::isolate::Isolate;
 use crate::quiet::is_dead_wake;
@@ -123,11 +123,34 @@ pub fn lightened<I>(worker: &mut WorkerState<I>, rows: &[RequestState], began: O
     }
 }
 
-/// One more request, in ascending order.
-fn place(found: &mut Seq<Req>, req: Req) -> Result<(), NoMemory>
-    ensures { OnOk result (found.new ≡ placed req found.old) }
+/// The number is not less than the request's.
+fn is_above(req: Req, other: Req) -> bool
+    ensures { result ≡ is_above req other }
 {
-    Err(NoMemory)
+    !(other.0 < req.0)
+}
+
+/// The place of a request among ascending ones.
+#[tactic(auto, using(crate::proofs::KeyedLemmas::place_within))]
+fn rank(reqs: &[Req], req: Req) -> usize
+    ensures rank { result ≡ rank req reqs.now }
+    ensures within { result ≤ length reqs.now }
+{
+    match reqs.iter().position(|other| is_above(req, *other)) {
+        Some(at) => at,
+        None => reqs.len(),
+    }
+}
+
+/// One more request, in ascending order.
+fn place(reqs: &mut Vec<Req>, req: Req) -> Result<(), NoMemory>
+    ensures { OnOk result (reqs.new.items ≡ placed req reqs.old.items) }
+{
+    let at = rank(reqs.as_slice(), req);
+    if reqs.insert(at, req).is_err() {
+        return Err(NoMemory);
+    }
+    Ok(())
 }
 
 /// The request lives in the Worker's generation and waits for no turn.
@@ -140,10 +163,10 @@ fn is_stranded<I>(worker: &WorkerState<I>, row: &RequestState) -> bool
 /// One more row is looked at.
 fn with_stranded<I>(
     worker: &WorkerState<I>,
-    found: &mut Seq<Req>,
+    found: &mut Vec<Req>,
     row: &RequestState,
 ) -> Result<(), NoMemory>
-    ensures { OnOk result (found.new ≡ with_stranded worker.now found.old row.now) }
+    ensures { OnOk result (found.new.items ≡ with_stranded worker.now found.old.items row.now) }
 {
     if !is_stranded(worker, row) {
         return Ok(());
@@ -156,10 +179,10 @@ fn stranded<I>(
     alloc: Global,
     worker: &WorkerState<I>,
     rows: &[RequestState],
-) -> Result<Seq<Req>, NoMemory>
-    ensures { IfOk result (λ found. found ≡ stranded rows.now worker.now) }
+) -> Result<Vec<Req>, NoMemory>
+    ensures { IfOk result (λ found. found.items ≡ stranded rows.now worker.now) }
 {
-    let mut found = Seq::new(alloc);
+    let mut found = Vec::new(alloc);
     for row in rows {
         with_stranded(worker, &mut found, row)?;
     }

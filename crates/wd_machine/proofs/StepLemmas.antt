@@ -1,0 +1,61 @@
+-- What a program's change of one row makes of the state.
+use Rattle.std.proofs.Common.{◌≡◌, ℕ, List, Option, Some, None, Result, Ok, Err, OnOk, get_or, set, refl, sym, ap, ◌∙◌}
+use Rattle.std.specs.List.{position_from}
+use Rattle.wd_machine.specs.declared.state.RequestState.{RequestState}
+use Rattle.wd_machine.specs.declared.state.SeatState.{SeatState}
+use Rattle.wd_machine.specs.declared.state.State.{State}
+use Rattle.wd_machine.specs.declared.state.WorkerState.{WorkerState}
+use Rattle.wd_machine.specs.Found.{is_request, is_seat, is_worker, request_of}
+use Rattle.wd_machine.specs.Keyed.{change}
+use Rattle.wd_machine.specs.Places.{place_for}
+use Rattle.wd_machine.specs.Steps.{change_request, change_seat, change_worker, change_for}
+use Rattle.wd_machine.proofs.KeyedLemmas.{changed_at, change_none}
+
+-- a fact where a call answers Ok, of one that follows from it
+pub OnOk-map : {T E P Q : Type 0} (r : Result T E) → OnOk r P → (P → Q) → OnOk r Q
+OnOk-map (Ok x) p f = f p
+OnOk-map (Err e) p f = tt
+
+-- one row was changed at its place
+pub request_changed : {I : Type 0} (s : State I) (req i : ℕ) (f : RequestState → RequestState) (r r' : RequestState)
+    → position_from (is_request req) 0 s.requests ≡ Some i → r ≡ get_or s.requests i r → r' ≡ f r
+    → record s { requests = set s.requests i r' } ≡ change_request req f s
+request_changed s req i f r r' found read is = λ k. record s { requests = changed_at (is_request req) f s.requests i r r' found read is k }
+
+-- there is no such row
+pub request_kept : {I : Type 0} (s : State I) (req : ℕ) (f : RequestState → RequestState)
+    → position_from (is_request req) 0 s.requests ≡ None → s ≡ change_request req f s
+request_kept s req f found = λ k. record s { requests = sym (change_none (is_request req) f s.requests found) k }
+
+-- one seat was changed at its place
+pub seat_changed : {I : Type 0} (s : State I) (seat i : ℕ) (f : SeatState → SeatState) (t t' : SeatState)
+    → position_from (is_seat seat) 0 s.seats ≡ Some i → t ≡ get_or s.seats i t → t' ≡ f t
+    → record s { seats = set s.seats i t' } ≡ change_seat seat f s
+seat_changed s seat i f t t' found read is = λ k. record s { seats = changed_at (is_seat seat) f s.seats i t t' found read is k }
+
+-- there is no such seat
+pub seat_kept : {I : Type 0} (s : State I) (seat : ℕ) (f : SeatState → SeatState)
+    → position_from (is_seat seat) 0 s.seats ≡ None → s ≡ change_seat seat f s
+seat_kept s seat f found = λ k. record s { seats = sym (change_none (is_seat seat) f s.seats found) k }
+
+-- the Worker of a request was changed at its place
+pub worker_changed_in : {I : Type 0} (o : Option RequestState) (ws : List (WorkerState I)) (i : ℕ) (f : WorkerState I → WorkerState I) (w w' : WorkerState I)
+    → place_for o ws ≡ Some i → w ≡ get_or ws i w → w' ≡ f w → set ws i w' ≡ change_for o f ws
+worker_changed_in None ws i f w w' found read is = cc
+worker_changed_in (Some r) ws i f w w' found read is = changed_at (is_worker r.service) f ws i w w' found read is
+
+-- the same in the state
+pub worker_changed : {I : Type 0} (s : State I) (req i : ℕ) (f : WorkerState I → WorkerState I) (w w' : WorkerState I)
+    → place_for (request_of req s.requests) s.workers ≡ Some i → w ≡ get_or s.workers i w → w' ≡ f w
+    → record s { workers = set s.workers i w' } ≡ change_worker req f s
+worker_changed s req i f w w' found read is = λ k. record s { workers = worker_changed_in (request_of req s.requests) s.workers i f w w' found read is k }
+
+worker_kept_in : {I : Type 0} (o : Option RequestState) (ws : List (WorkerState I)) (f : WorkerState I → WorkerState I)
+    → place_for o ws ≡ None → ws ≡ change_for o f ws
+worker_kept_in None ws f found = refl
+worker_kept_in (Some r) ws f found = sym (change_none (is_worker r.service) f ws found)
+
+-- the request has no Worker
+pub worker_kept : {I : Type 0} (s : State I) (req : ℕ) (f : WorkerState I → WorkerState I)
+    → place_for (request_of req s.requests) s.workers ≡ None → s ≡ change_worker req f s
+worker_kept s req f found = λ k. record s { workers = worker_kept_in (request_of req s.requests) s.workers f found k }
