@@ -2,4 +2,5 @@ pub mod FirstLemmas
 pub mod KeyedLemmas
 pub mod SameLemmas
 pub mod StepLemmas
+pub mod TermsLemmas
 pub mod WaitLemmas

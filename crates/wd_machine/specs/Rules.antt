@@ -1,12 +1,13 @@
 -- The rules by which an entry is allowed, each with the value that a refusal keeps.
-use Rattle.std.specs.Prelude.{ℕ, ◌≡◌, ◌↔◌, ◌==◌, nat_lt, nat_le, Bool, true, false, not, ◌&&◌, ◌||◌, List, [], ◌∷◌, length, Option, Some, None, is_some, is_none, IsTrue}
+use Rattle.std.specs.Prelude.{ℕ, ◌≡◌, ◌↔◌, ◌==◌, nat_lt, nat_le, Bool, true, false, not, ◌&&◌, ◌||◌, List, [], ◌∷◌, length, map, Option, Some, None, is_some, is_none, IsTrue}
 use Rattle.std.specs.List.{find}
 use Rattle.wd_base.specs.declared.config.Config.{Config}
 use Rattle.wd_base.specs.declared.config.Service.{Service}
 use Rattle.wd_base.specs.declared.ids.Req.{Req}
+use Rattle.wd_base.specs.declared.ids.ServiceNo.{ServiceNo}
 use Rattle.wd_base.specs.declared.objects.Origin.{Origin}
 use Rattle.wd_base.specs.declared.objects.Origin.TheVariants.{Outside, Child, Caller}
-use Rattle.wd_graph.specs.Graph.{Reaches, has_text}
+use Rattle.wd_graph.specs.Graph.{Reaches, has_text, name_at}
 use Rattle.wd_graph.specs.Names.{service_of, has_name, is_public}
 use Rattle.wd_machine.specs.declared.journal.Entry.{Entry}
 use Rattle.wd_machine.specs.declared.journal.Entry.TheVariants.{Arrive, Begin, Turn, Answer, Served, Cancel, Drain}
@@ -55,6 +56,14 @@ IsReachedFrom services from name = IsTrue (has_name services from) × (IsTrue (h
 abbrev pub IsOpen : Config → Head → List ℕ → Type 0
 IsOpen world Whole name = IsTrue (is_public world name)
 IsOpen world (Part service) name = IsReachedFrom world.services service name
+
+-- the names of the services that sockets answer for
+abbrev pub socket_names : Config → List (List ℕ)
+socket_names world = map (λ socket. socket.service) world.sockets
+
+-- the names of the services of these numbers
+abbrev pub names_of : List Service → List ServiceNo → List (List ℕ)
+names_of services numbers = map (λ number. name_at services number.0) numbers
 
 -- what a head says in a world
 pub record AreTerms (world : Config) (head : Head) (terms : Terms) : Type 0 where
