@@ -1,5 +1,5 @@
 -- What a program's change of one row makes of the state.
-use Rattle.std.proofs.Common.{◌≡◌, ℕ, List, Option, Some, None, Result, Ok, Err, OnOk, get_or, set, refl, sym, ap, ◌∙◌}
+use Rattle.std.proofs.Common.{◌≡◌, ℕ, List, Option, Some, None, Result, Ok, Err, OnOk, get_or, set, refl, sym, ap, subst, ◌∙◌}
 use Rattle.std.specs.List.{position_from}
 use Rattle.wd_machine.specs.declared.state.RequestState.{RequestState}
 use Rattle.wd_machine.specs.declared.state.SeatState.{SeatState}
@@ -59,3 +59,22 @@ worker_kept_in (Some r) ws f found = sym (change_none (is_worker r.service) f ws
 pub worker_kept : {I : Type 0} (s : State I) (req : ℕ) (f : WorkerState I → WorkerState I)
     → place_for (request_of req s.requests) s.workers ≡ None → s ≡ change_worker req f s
 worker_kept s req f found = λ k. record s { workers = worker_kept_in (request_of req s.requests) s.workers f found k }
+
+-- the same from the state that the program's tables make
+pub request_set : {I : Type 0} (s now : State I) (req i : ℕ) (f : RequestState → RequestState) (r r' : RequestState)
+    → s ≡ now → position_from (is_request req) 0 now.requests ≡ Some i → r ≡ get_or s.requests i r → r' ≡ f r
+    → record s { requests = set s.requests i r' } ≡ change_request req f now
+request_set {I} s now req i f r r' same found read is =
+    request_changed s req i f r r' (subst (λ (t : State I). position_from (is_request req) 0 t.requests ≡ Some i) (sym same) found) read is ∙ ap (change_request req f) same
+
+pub seat_set : {I : Type 0} (s now : State I) (seat i : ℕ) (f : SeatState → SeatState) (t t' : SeatState)
+    → s ≡ now → position_from (is_seat seat) 0 now.seats ≡ Some i → t ≡ get_or s.seats i t → t' ≡ f t
+    → record s { seats = set s.seats i t' } ≡ change_seat seat f now
+seat_set {I} s now seat i f t t' same found read is =
+    seat_changed s seat i f t t' (subst (λ (u : State I). position_from (is_seat seat) 0 u.seats ≡ Some i) (sym same) found) read is ∙ ap (change_seat seat f) same
+
+pub worker_set : {I : Type 0} (s now : State I) (req i : ℕ) (f : WorkerState I → WorkerState I) (w w' : WorkerState I)
+    → s ≡ now → place_for (request_of req now.requests) now.workers ≡ Some i → w ≡ get_or s.workers i w → w' ≡ f w
+    → record s { workers = set s.workers i w' } ≡ change_worker req f now
+worker_set {I} s now req i f w w' same found read is =
+    worker_changed s req i f w w' (subst (λ (t : State I). place_for (request_of req t.requests) t.workers ≡ Some i) (sym same) found) read is ∙ ap (change_worker req f) same

@@ -1,10 +1,10 @@
 ghost use Rattle.std.specs.Prelude.{◌≡◌, ◌<◌, ◌∷◌, ◌++◌, [], IfOk, IfSome, OnOk, is_some, length};
-ghost use Rattle.std.specs.List.{fold};
+ghost use Rattle.std.specs.List.{fold, position_from};
 ghost use Rattle.std.specs.Option.{option_copied};
 ghost use Rattle.wd_graph.specs.Names.{worker_in};
 ghost use Rattle.wd_machine.specs.Duties.{owes, children_if};
 ghost use Rattle.wd_machine.specs.Ends.{waits_in};
-ghost use Rattle.wd_machine.specs.Found.{is_seat, is_worker, request_of, worker_of, worker_for, waiters_at, seat_at, running_in, run_of, due_in};
+ghost use Rattle.wd_machine.specs.Found.{is_request, is_seat, is_worker, request_of, worker_of, worker_for, waiters_at, seat_at, running_in, run_of, due_in};
 ghost use Rattle.wd_machine.specs.Keyed.{change};
 ghost use Rattle.wd_machine.specs.Places.{place_for};
 ghost use Rattle.wd_machine.specs.Rules.{broken, broken_duty, broken_entry, broken_arrive, broken_begin, broken_turn, broken_running, broken_answer, broken_served, broken_cancel, broken_drain};
@@ -73,6 +73,22 @@ impl<I> Machine<I> {
         place_for(self.workers.as_slice(), row)
     }
 
+    /// The place of the request of this number.
+    fn request_place(&self, req: Req) -> Option<usize>
+        ensures place { result ≡ position_from (is_request req.0) 0 self.now.requests }
+        ensures within { IfSome result (λ i. i < length self.now.requests) }
+    {
+        request_place(self.requests.as_slice(), req)
+    }
+
+    /// The place of the seat of this number.
+    fn seat_place(&self, seat: Seat) -> Option<usize>
+        ensures place { result ≡ position_from (is_seat seat.0) 0 self.now.seats }
+        ensures within { IfSome result (λ i. i < length self.now.seats) }
+    {
+        seat_place(self.seats.as_slice(), seat)
+    }
+
     /// One more request is there.
     fn add(&mut self, row: RequestState) -> Result<(), NoMemory>
         ensures { OnOk result (self.new ≡ added row self.old) }
@@ -84,6 +100,7 @@ impl<I> Machine<I> {
     }
 
     /// The request waits for a turn of its Worker, if it has one.
+    #[tactic(auto, using(crate::proofs::StepLemmas::worker_kept))]
     fn register(&mut self, req: Req, wake: Wake) -> Result<(), NoMemory>
         ensures { OnOk result (self.new ≡ registered req wake self.old) }
     {
@@ -94,21 +111,25 @@ impl<I> Machine<I> {
     }
 
     /// The seat has met its front duty.
+    #[tactic(auto, using(crate::proofs::StepLemmas::seat_kept))]
     fn meet(&mut self, seat: Seat)
         ensures { self.new ≡ met seat.0 self.old }
     {
-        if let Some(at) = seat_place(self.seats.as_slice(), seat) {
-            meets_duty(&mut self.seats[at]);
-        }
+        let Some(at) = self.seat_place(seat) else {
+            return;
+        };
+        meets_duty(&mut self.seats[at]);
     }
 
     /// The seat has dropped the duties that are met without any entry.
+    #[tactic(auto, using(crate::proofs::StepLemmas::seat_kept))]
     fn settle(&mut self, seat: Seat)
         ensures { self.new ≡ settled seat.0 self.old }
     {
-        if let Some(at) = seat_place(self.seats.as_slice(), seat) {
-            settles(self.requests.as_slice(), &mut self.seats[at]);
-        }
+        let Some(at) = self.seat_place(seat) else {
+            return;
+        };
+        settles(self.requests.as_slice(), &mut self.seats[at]);
     }
 
     /// A request arrives, and at a Worker it waits for its start.
@@ -132,13 +153,15 @@ impl<I> Machine<I> {
     }
 
     /// An operation of the request has ended.
+    #[tactic(auto, using(crate::proofs::StepLemmas::request_kept))]
     fn land(&mut self, req: Req, op: Op)
         ensures { self.new ≡ landed req.0 op.0 self.old }
     {
         let alloc = *self.requests.allocator();
-        if let Some(at) = request_place(self.requests.as_slice(), req) {
-            has_landed(alloc, &mut self.requests[at], op.0);
-        }
+        let Some(at) = self.request_place(req) else {
+            return;
+        };
+        has_landed(alloc, &mut self.requests[at], op.0);
     }
 
     /// An operation has ended, and its request waits to take the result up.
@@ -153,35 +176,41 @@ impl<I> Machine<I> {
     }
 
     /// The seat runs the turn that was made, if one was.
+    #[tactic(auto, using(crate::proofs::StepLemmas::seat_kept))]
     fn run(&mut self, seat: Seat, made: Option<Pending>)
         ensures { self.new ≡ ran seat.0 made self.old }
     {
         let Some(pending) = made else {
             return;
         };
-        if let Some(at) = seat_place(self.seats.as_slice(), seat) {
-            runs(&mut self.seats[at], pending);
-        }
+        let Some(at) = self.seat_place(seat) else {
+            return;
+        };
+        runs(&mut self.seats[at], pending);
     }
 
     /// The request has no objects and no operations any more.
+    #[tactic(auto, using(crate::proofs::StepLemmas::request_kept))]
     fn empty(&mut self, req: Req)
         ensures { self.new ≡ emptied req.0 self.old }
     {
         let alloc = *self.requests.allocator();
-        if let Some(at) = request_place(self.requests.as_slice(), req) {
-            is_over(alloc, &mut self.requests[at]);
-        }
+        let Some(at) = self.request_place(req) else {
+            return;
+        };
+        is_over(alloc, &mut self.requests[at]);
     }
 
     /// Nothing of the request waits for its Worker any more.
+    #[tactic(auto, using(crate::proofs::StepLemmas::worker_kept))]
     fn unwait(&mut self, req: Req)
         ensures { self.new ≡ unwaited req.0 self.old }
     {
         let alloc = *self.requests.allocator();
-        if let Some(at) = self.worker_place(req) {
-            waits_without(alloc, &mut self.workers[at], req.0);
-        }
+        let Some(at) = self.worker_place(req) else {
+            return;
+        };
+        waits_without(alloc, &mut self.workers[at], req.0);
     }
 
     /// The generation that the request began in, if it has begun.
@@ -195,13 +224,15 @@ impl<I> Machine<I> {
     }
 
     /// The heap of the request's Worker is given up, where it is too large and no request needs it.
+    #[tactic(auto, using(crate::proofs::StepLemmas::worker_kept))]
     fn spare(&mut self, req: Req)
         ensures { self.new ≡ spared req.0 self.old }
     {
         let began = self.generation_of(req);
-        if let Some(at) = self.worker_place(req) {
-            lightened(&mut self.workers[at], self.requests.as_slice(), began);
-        }
+        let Some(at) = self.worker_place(req) else {
+            return;
+        };
+        lightened(&mut self.workers[at], self.requests.as_slice(), began);
     }
 
     /// The end of a request, at whichever entry.
@@ -223,32 +254,37 @@ impl<I> Machine<I> {
     }
 
     /// The isolate of the request's Worker is free again.
+    #[tactic(auto, using(crate::proofs::StepLemmas::worker_kept))]
     fn give_back(&mut self, req: Req, heavy: bool)
         ensures { self.new ≡ returned req.0 heavy self.old }
     {
-        if let Some(at) = self.worker_place(req) {
-            is_free(&mut self.workers[at], heavy);
-        }
+        let Some(at) = self.worker_place(req) else {
+            return;
+        };
+        is_free(&mut self.workers[at], heavy);
     }
 
     /// What a turn did to its own request is done.
+    #[tactic(auto, using(crate::proofs::StepLemmas::request_kept))]
     fn commit(&mut self, req: Req, out: &Out, objects: Objects) -> Result<(), NoMemory>
         ensures { OnOk result (self.new ≡ committed req.0 out.now objects self.old) }
     {
         let alloc = *self.requests.allocator();
-        let Some(at) = request_place(self.requests.as_slice(), req) else {
+        let Some(at) = self.request_place(req) else {
             return Ok(());
         };
         has_turned(alloc, &mut self.requests[at], out, objects)
     }
 
     /// The request has replied, if there is a reply.
+    #[tactic(auto, using(crate::proofs::StepLemmas::request_kept))]
     fn reply(&mut self, req: Req, reply: &Option<Reply>)
         ensures { self.new ≡ replied req.0 reply.now self.old }
     {
-        if let Some(at) = request_place(self.requests.as_slice(), req) {
-            has_replied(&mut self.requests[at], reply);
-        }
+        let Some(at) = self.request_place(req) else {
+            return;
+        };
+        has_replied(&mut self.requests[at], reply);
     }
 
     /// The jobs that the request's turn left for requests beside it wait.
@@ -268,6 +304,7 @@ impl<I> Machine<I> {
     }
 
     /// The heap of the request's Worker is given up, where its turn was condemned.
+    #[tactic(auto, using(crate::proofs::StepLemmas::worker_kept))]
     fn condemn(&mut self, condemned: bool, req: Req) -> Result<(), NoMemory>
         ensures { OnOk result (self.new ≡ given_up condemned req.0 self.old) }
     {
@@ -280,10 +317,11 @@ impl<I> Machine<I> {
     }
 
     /// The seat has one more duty in front, if there is one.
+    #[tactic(auto, using(crate::proofs::StepLemmas::seat_kept))]
     fn owe(&mut self, seat: Seat, duty: Option<Duty>) -> Result<(), NoMemory>
         ensures { OnOk result (self.new ≡ owing seat.0 duty self.old) }
     {
-        let Some(at) = seat_place(self.seats.as_slice(), seat) else {
+        let Some(at) = self.seat_place(seat) else {
             return Ok(());
         };
         owes(&mut self.seats[at], duty)
@@ -299,11 +337,12 @@ impl<I> Machine<I> {
     }
 
     /// The seat owes the arrivals of the operations to Workers.
+    #[tactic(auto, using(crate::proofs::StepLemmas::seat_kept))]
     fn owe_arrivals(&mut self, seat: Seat, req: Req, ops: &[OpStart]) -> Result<(), NoMemory>
         ensures { OnOk result (self.new ≡ owing_arrivals seat.0 req ops.now self.old) }
     {
         let alloc = *self.requests.allocator();
-        let Some(at) = seat_place(self.seats.as_slice(), seat) else {
+        let Some(at) = self.seat_place(seat) else {
             return Ok(());
         };
         owes_arrivals(alloc, self.workers.as_slice(), req, ops, &mut self.seats[at])
@@ -385,14 +424,15 @@ impl<I> Machine<I> {
     }
 
     /// The seat runs nothing any more; what it ran is handed out.
+    #[tactic(auto, using(crate::proofs::StepLemmas::seat_kept))]
     fn rest(&mut self, seat: Seat) -> Option<Pending>
         ensures state { self.new ≡ change_seat seat.0 rests self.old }
         ensures ran { result ≡ running_in (seat_at seat.0 self.old.seats) }
     {
-        match seat_place(self.seats.as_slice(), seat) {
-            Some(at) => rests(&mut self.seats[at]),
-            None => None,
-        }
+        let Some(at) = self.seat_place(seat) else {
+            return None;
+        };
+        rests(&mut self.seats[at])
     }
 
     /// The turn that the seat runs is done, and the isolate and the seat are free again. The `Out`
@@ -431,12 +471,14 @@ impl<I> Machine<I> {
     }
 
     /// The request's caller has gone, and it works on.
+    #[tactic(auto, using(crate::proofs::StepLemmas::request_kept))]
     fn detach(&mut self, req: Req)
         ensures { self.new ≡ detached req.0 self.old }
     {
-        if let Some(at) = request_place(self.requests.as_slice(), req) {
-            is_detached(&mut self.requests[at]);
-        }
+        let Some(at) = self.request_place(req) else {
+            return;
+        };
+        is_detached(&mut self.requests[at]);
     }
 
     /// The caller has gone of a request that waits for no promise, and so ends, or for some.
@@ -467,10 +509,11 @@ impl<I> Machine<I> {
         ensures { self.new ≡ drained seat self.old }
     {
         let alloc = *self.requests.allocator();
-        if let Some(at) = seat_place(self.seats.as_slice(), seat) {
-            let due = has_drained(alloc, &mut self.seats[at]);
-            free_all(alloc, &mut self.requests, due.as_slice());
-        }
+        let Some(at) = self.seat_place(seat) else {
+            return;
+        };
+        let due = has_drained(alloc, &mut self.seats[at]);
+        free_all(alloc, &mut self.requests, due.as_slice());
     }
 
     /// Why an entry of a seat is not allowed, if it is not; `is_duty` tells whether it is the seat's
@@ -951,6 +994,7 @@ fn conclusion<I>(
 }
 
 /// The seats before any entry.
+#[tactic(auto, using(crate::proofs::FirstLemmas::seats_more))]
 fn first_seats(alloc: Global) -> Result<Vec<SeatState>, NoMemory>
     ensures { IfOk result (λ seats. seats.items ≡ first_seats) }
 {
