@@ -78,3 +78,16 @@ pub worker_set : {I : Type 0} (s now : State I) (req i : ℕ) (f : WorkerState I
     → record s { workers = set s.workers i w' } ≡ change_worker req f now
 worker_set {I} s now req i f w w' same found read is =
     worker_changed s req i f w w' (subst (λ (t : State I). place_for (request_of req t.requests) t.workers ≡ Some i) (sym same) found) read is ∙ ap (change_worker req f) same
+
+-- the same where the change reads the state
+pub seat_set_by : {I : Type 0} (s now : State I) (seat i : ℕ) (f : State I → SeatState → SeatState) (t t' : SeatState)
+    → s ≡ now → position_from (is_seat seat) 0 now.seats ≡ Some i → t ≡ get_or s.seats i t → t' ≡ f s t
+    → record s { seats = set s.seats i t' } ≡ change_seat seat (f now) now
+seat_set_by {I} s now seat i f t t' same found read is =
+    seat_changed s seat i (f s) t t' (subst (λ (u : State I). position_from (is_seat seat) 0 u.seats ≡ Some i) (sym same) found) read is ∙ ap (λ (u : State I). change_seat seat (f u) u) same
+
+pub worker_set_by : {I : Type 0} (s now : State I) (req i : ℕ) (f : State I → WorkerState I → WorkerState I) (w w' : WorkerState I)
+    → s ≡ now → place_for (request_of req now.requests) now.workers ≡ Some i → w ≡ get_or s.workers i w → w' ≡ f s w
+    → record s { workers = set s.workers i w' } ≡ change_worker req (f now) now
+worker_set_by {I} s now req i f w w' same found read is =
+    worker_changed s req i (f s) w w' (subst (λ (t : State I). place_for (request_of req t.requests) t.workers ≡ Some i) (sym same) found) read is ∙ ap (λ (u : State I). change_worker req (f u) u) same
