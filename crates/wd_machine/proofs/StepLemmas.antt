@@ -1,15 +1,22 @@
 -- What a program's change of one row makes of the state.
-use Rattle.std.proofs.Common.{◌≡◌, ℕ, List, Option, Some, None, Result, Ok, Err, OnOk, get_or, set, refl, sym, ap, subst, ◌∙◌}
+use Rattle.std.proofs.Common.{◌≡◌, ℕ, ◌==◌, Bool, true, false, if◌then◌else◌, List, [], ◌∷◌, Option, Some, None, Result, Ok, Err, OnOk, get_or, set, refl, sym, ap, subst, ◌∙◌}
+use Rattle.std.proofs.lemmas.Bool.{eqb-true}
+use Rattle.std.proofs.lemmas.List.{set-get_or}
 use Rattle.std.specs.List.{position_from}
+use Rattle.wd_base.specs.declared.ids.Req.{Req}
+use Rattle.wd_base.specs.declared.ids.Seat.{Seat}
+use Rattle.wd_machine.specs.declared.state.Pending.{Pending}
 use Rattle.wd_machine.specs.declared.state.RequestState.{RequestState}
 use Rattle.wd_machine.specs.declared.state.SeatState.{SeatState}
 use Rattle.wd_machine.specs.declared.state.State.{State}
+use Rattle.wd_machine.specs.declared.state.Waiter.{Waiter}
 use Rattle.wd_machine.specs.declared.state.WorkerState.{WorkerState}
-use Rattle.wd_machine.specs.Found.{is_request, is_seat, is_worker, request_of}
+use Rattle.wd_machine.specs.Found.{is_request, is_seat, is_worker, request_of, worker_of}
 use Rattle.wd_machine.specs.Keyed.{change}
 use Rattle.wd_machine.specs.Places.{place_for}
-use Rattle.wd_machine.specs.Steps.{change_request, change_seat, change_worker, change_for}
-use Rattle.wd_machine.proofs.KeyedLemmas.{changed_at, change_none}
+use Rattle.wd_machine.specs.Meaning.{Meaning}
+use Rattle.wd_machine.specs.Steps.{change_request, change_seat, change_worker, change_for, RunsFront, ran, runs, begun, begun_by, begun_in, begun_front, begun_with, pending_of, is_dead_turn, turn_generation, turn_in, taken_by, starts_turn}
+use Rattle.wd_machine.proofs.KeyedLemmas.{changed_at, change_none, find_at, find_none, same_read}
 
 -- a fact where a call answers Ok, of one that follows from it
 pub OnOk-map : {T E P Q : Type 0} (r : Result T E) → OnOk r P → (P → Q) → OnOk r Q
@@ -91,3 +98,49 @@ pub worker_set_by : {I : Type 0} (s now : State I) (req i : ℕ) (f : State I �
     → record s { workers = set s.workers i w' } ≡ change_worker req (f now) now
 worker_set_by {I} s now req i f w w' same found read is =
     worker_changed s req i (f s) w w' (subst (λ (t : State I). place_for (request_of req t.requests) t.workers ≡ Some i) (sym same) found) read is ∙ ap (λ (u : State I). change_worker req (f u) u) same
+
+-- a request that is found by a number has it
+pub found_number : (rows : List RequestState) (req : ℕ) (r : RequestState) → request_of req rows ≡ Some r → r.req.0 ≡ req
+found_number [] req r e = cc
+found_number (x ∷ rest) req r e =
+    elim (x.req.0 == req) as (λ b. (x.req.0 == req) ≡ b → (if b then Some x else request_of req rest) ≡ Some r → r.req.0 ≡ req) [
+      | true ↦ λ h e. let same : x ≡ r = cc in sym (ap (λ (t : RequestState). t.req.0) same) ∙ eqb-true x.req.0 req h
+      | false ↦ λ h e. found_number rest req r e
+    ] refl e
+
+-- no such request
+pub begun_absent : {I : Type 0} (m : Meaning I) (s : State I) (seat : Seat) (req : Req) → position_from (is_request req.0) 0 s.requests ≡ None → s ≡ begun m seat req s
+begun_absent m s seat req e = ap (λ o. begun_by m seat o s) (sym (find_none (is_request req.0) s.requests e))
+
+-- the tables after the front waiter's turn, if one waits
+begun_cases : {I : Type 0} (m : Meaning I) (s : State I) (seat : Seat) (req : Req) (r r' : RequestState) (w w' : WorkerState I) (i j : ℕ) (made : Option Pending)
+    → position_from (is_request req.0) 0 s.requests ≡ Some i → position_from (is_worker r.service) 0 s.workers ≡ Some j
+    → r ≡ get_or s.requests i r → w ≡ get_or s.workers j w → r.req.0 ≡ req.0
+    → (ws : List Waiter) → w.waiters ≡ ws → RunsFront m w r ws w' r' made
+    → ran seat.0 made (record s { workers = set s.workers j w'; requests = set s.requests i r' }) ≡ begun_front m seat r w ws s
+begun_cases {I} m s seat req r r' w w' i j made at place read_row read_worker number [] is h =
+    let rows : set s.requests i r' ≡ s.requests = ap (set s.requests i) (h.2 ∙ read_row) ∙ set-get_or s.requests i r in
+    let workers : set s.workers j w' ≡ s.workers = ap (set s.workers j) (h.1 ∙ read_worker) ∙ set-get_or s.workers j w in
+    ap (λ o. ran seat.0 o (record s { workers = set s.workers j w'; requests = set s.requests i r' })) h.0
+    ∙ (λ k. record s { workers = workers k; requests = rows k })
+begun_cases {I} m s seat req r r' w w' i j made at place read_row read_worker number (x ∷ rest) is h =
+    let generation = turn_generation r w in
+    let gives = m.turn w.isolate (turn_in generation r x.wake) in
+    let workers = changed_at (is_worker r.service) (taken_by r.req gives.isolate rest) s.workers j w w' place read_worker h.1 in
+    let rows = changed_at (is_request req.0) (starts_turn generation) s.requests i r r' at read_row h.2 ∙ ap (λ q. change (is_request q) (starts_turn generation) s.requests) (sym number) in
+    ap (λ o. ran seat.0 o (record s { workers = set s.workers j w'; requests = set s.requests i r' })) h.0
+    ∙ (λ k. record s { workers = workers k; requests = rows k; seats = change (is_seat seat.0) (runs (pending_of r.req (is_dead_turn generation w x.wake) gives)) s.seats })
+
+-- Begin where the request and its Worker were found
+pub begun_found : {I : Type 0} (m : Meaning I) (s now : State I) (seat : Seat) (req : Req) (r r' : RequestState) (w w' : WorkerState I) (i j : ℕ) (made : Option Pending)
+    → s ≡ now → position_from (is_request req.0) 0 now.requests ≡ Some i → position_from (is_worker r.service) 0 now.workers ≡ Some j
+    → r ≡ get_or s.requests i r → w ≡ get_or s.workers j w → RunsFront m w r w.waiters w' r' made
+    → ran seat.0 made (record s { workers = set s.workers j w'; requests = set s.requests i r' }) ≡ begun m seat req now
+begun_found {I} m s now seat req r r' w w' i j made same at_now place_now read_row read_worker h =
+    let at = subst (λ (t : State I). position_from (is_request req.0) 0 t.requests ≡ Some i) (sym same) at_now in
+    let place = subst (λ (t : State I). position_from (is_worker r.service) 0 t.workers ≡ Some j) (sym same) place_now in
+    let row : request_of req.0 s.requests ≡ Some r = find_at (is_request req.0) s.requests i r at ∙ ap Some (sym read_row) in
+    let worker : worker_of r.service s.workers ≡ Some w = find_at (is_worker r.service) s.workers j w place ∙ ap Some (sym read_worker) in
+    let steps : begun m seat req s ≡ begun_front m seat r w w.waiters s = ap (λ o. begun_by m seat o s) row ∙ ap (λ o. begun_in m seat r o s) worker in
+    begun_cases m s seat req r r' w w' i j made at place read_row read_worker (found_number s.requests req.0 r row) w.waiters refl h
+    ∙ sym steps ∙ ap (begun m seat req) same
