@@ -1,5 +1,5 @@
 -- What a program's change of one row makes of the state.
-use Rattle.std.proofs.Common.{◌≡◌, ℕ, ◌==◌, Bool, true, false, if◌then◌else◌, List, [], ◌∷◌, Option, Some, None, Result, Ok, Err, OnOk, get_or, set, refl, sym, ap, subst, ◌∙◌}
+use Rattle.std.proofs.Common.{◌≡◌, ℕ, ◌==◌, true, false, if◌then◌else◌, List, [], ◌∷◌, Option, Some, None, Result, Ok, Err, OnOk, get_or, set, refl, sym, ap, subst, ◌∙◌}
 use Rattle.std.proofs.lemmas.Bool.{eqb-true}
 use Rattle.std.proofs.lemmas.List.{set-get_or}
 use Rattle.std.specs.List.{position_from}
@@ -15,8 +15,8 @@ use Rattle.wd_machine.specs.Found.{is_request, is_seat, is_worker, request_of, w
 use Rattle.wd_machine.specs.Keyed.{change}
 use Rattle.wd_machine.specs.Places.{place_for}
 use Rattle.wd_machine.specs.Meaning.{Meaning}
-use Rattle.wd_machine.specs.Steps.{change_request, change_seat, change_worker, change_for, RunsFront, ran, runs, begun, begun_by, begun_in, begun_front, begun_with, pending_of, is_dead_turn, turn_generation, turn_in, taken_by, starts_turn}
-use Rattle.wd_machine.proofs.KeyedLemmas.{changed_at, change_none, find_at, find_none, same_read}
+use Rattle.wd_machine.specs.Steps.{change_request, change_seat, change_worker, change_for, RunsFront, ran, runs, begun, begun_by, begun_in, begun_front, pending_of, is_dead_turn, turn_generation, turn_in, taken_by, starts_turn}
+use Rattle.wd_machine.proofs.KeyedLemmas.{changed_at, change_none, find_at, find_none}
 
 -- a fact where a call answers Ok, of one that follows from it
 pub OnOk-map : {T E P Q : Type 0} (r : Result T E) → OnOk r P → (P → Q) → OnOk r Q

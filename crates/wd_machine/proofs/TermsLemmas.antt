@@ -1,5 +1,5 @@
 -- The names of the services that a service reaches.
-use Rattle.std.proofs.Common.{◌≡◌, ◌↔◌, ◌<◌, ℕ, Bool, true, false, ◌||◌, IsTrue, List, [], ◌∷◌, map, length, slice_get, get_or, Option, Some, None, is_some, nat_eq, refl, sym, ap, ◌∙◌, subst, arith}
+use Rattle.std.proofs.Common.{◌≡◌, ◌↔◌, ◌<◌, ℕ, Bool, true, false, ◌||◌, IsTrue, List, [], ◌∷◌, map, length, get_or, Option, Some, None, is_some, nat_eq, refl, sym, ap, ◌∙◌, subst, arith}
 use Rattle.std.proofs.lemmas.Bool.{false≢true, eqb-true}
 use Rattle.std.proofs.lemmas.Bool.Decides.{nat_tests}
 use Rattle.std.proofs.lemmas.Map.Keys.{any_passes_from_place}
@@ -12,8 +12,8 @@ use Rattle.wd_base.specs.declared.ids.ServiceNo.{ServiceNo}
 use Rattle.wd_graph.proofs.FindLemmas.{any_from_position}
 use Rattle.wd_graph.proofs.Numbers.{one_name, name_itself, known_number, number_name, numbered}
 use Rattle.wd_graph.specs.Graph.{Reaches, has_text, has_service, name_in, name_at, IsReach, IsReached}
-use Rattle.wd_graph.specs.Names.{same_name, has_name, is_named, is_public, number_of}
-use Rattle.wd_machine.specs.declared.journal.Head.TheVariants.{Whole, Part}
+use Rattle.wd_graph.specs.Names.{same_name, has_name, is_named, number_of}
+use Rattle.wd_machine.specs.declared.journal.Head.TheVariants.{Whole}
 use Rattle.wd_machine.proofs.KeyedLemmas.{place_within}
 use Rattle.wd_machine.specs.Rules.{AreTerms, IsReachedFrom, names_of, socket_names}
 

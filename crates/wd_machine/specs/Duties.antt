@@ -1,14 +1,12 @@
 -- What a seat owes: which duties an entry gives it, which one is the front, and which entry meets it.
-use Rattle.std.specs.Prelude.{ℕ, ◌==◌, nat_lt, Bool, true, false, not, ◌&&◌, if◌then◌else◌, List, [], ◌∷◌, ◌++◌, length, Option, Some, None, is_some}
+use Rattle.std.specs.Prelude.{ℕ, ◌==◌, nat_lt, Bool, true, false, not, ◌&&◌, if◌then◌else◌, List, [], ◌∷◌, ◌++◌, Option, Some, None, is_some}
 use Rattle.std.specs.List.{list_any, fold, cons_option}
 use Rattle.wd_base.specs.contracts.http.Reply as reply_type
 use Rattle.wd_base.specs.contracts.http.ReqData as req_data
 use Rattle.wd_base.specs.declared.http.Reply.{Reply}
 use Rattle.wd_base.specs.declared.http.ReqData.{ReqData}
-use Rattle.wd_base.specs.declared.ids.LinkNo.{LinkNo}
 use Rattle.wd_base.specs.declared.ids.Op.{Op}
 use Rattle.wd_base.specs.declared.ids.Req.{Req}
-use Rattle.wd_base.specs.declared.ids.Seat.{Seat}
 use Rattle.wd_base.specs.declared.objects.OpResult.{OpResult}
 use Rattle.wd_base.specs.declared.objects.OpResult.TheVariants.{Reply as Replied, Lost, Denied, Bad, Large}
 use Rattle.wd_base.specs.declared.objects.OpStart.{OpStart}

@@ -1,4 +1,4 @@
-ghost use Rattle.std.specs.Prelude.{◌≡◌, IfOk, OnOk, IsTrue, Err, false};
+ghost use Rattle.std.specs.Prelude.{◌≡◌, IfOk, IsTrue, Err, false};
 ghost use Rattle.wd_machine.specs.declared.refusal.ApplyEnd.TheVariants.{NoMemory as WantOfMemory};
 ghost use Rattle.wd_machine.specs.First.{AreFirst, first_state};
 ghost use Rattle.wd_machine.specs.Rules.{AreTerms};

@@ -1,5 +1,5 @@
-ghost use Rattle.std.specs.Prelude.{◌≡◌, ◌-◌, ◌++◌, filter, map, not, IfOk, OnOk};
-ghost use Rattle.wd_machine.specs.Ends.{failure, is_settled, is_idle, ends, lost_why, whole_reply, or_failure, given_reply, is_deaf, without, is_kept, is_kept_object, kept_objects};
+ghost use Rattle.std.specs.Prelude.{◌≡◌, ◌-◌, ◌++◌, IfOk};
+ghost use Rattle.wd_machine.specs.Ends.{failure, is_settled, is_idle, ends, lost_why, whole_reply, given_reply, is_deaf, without, kept_objects};
 ghost use Rattle.wd_machine.specs.Meaning.{has_obj};
 
 use crate::state::{Pending, RequestState};

@@ -4,12 +4,12 @@ ghost use Rattle.std.specs.Option.{option_copied};
 ghost use Rattle.wd_graph.specs.Names.{worker_in};
 ghost use Rattle.wd_machine.specs.Duties.{owes, children_if};
 ghost use Rattle.wd_machine.specs.Ends.{waits_in};
-ghost use Rattle.wd_machine.specs.Found.{is_request, is_seat, is_worker, request_of, worker_of, worker_for, waiters_at, seat_at, running_in, run_of, due_in};
+ghost use Rattle.wd_machine.specs.Found.{is_request, is_seat, is_worker, request_of, worker_for, waiters_at, seat_at, running_in, run_of, due_in};
 ghost use Rattle.wd_machine.specs.Keyed.{change};
 ghost use Rattle.wd_machine.specs.Places.{place_for};
 ghost use Rattle.wd_machine.specs.Rules.{broken, broken_duty, broken_entry, broken_arrive, broken_begin, broken_turn, broken_running, broken_answer, broken_served, broken_cancel, broken_drain};
 ghost use Rattle.wd_machine.specs.First.{AreFirst, AreFirstOf, first_state, first_workers, first_seats, idle_worker, idle_seat};
-ghost use Rattle.wd_machine.specs.Steps.{step, waits_too, has_due, added, registered, met, settled, arrived, landed, answered, begun, ran, emptied, unwaited, spared, ended, ended_if, returned, committed, replied, crossed, crossed_to, crossed_by, crossed_in, noted, noted_for, noted_by, noted_in, given_up, owing_answer, owing_arrivals, owing, followed, leaves_heavy, worked, concluded, conclusion, conclusion_of, done, turned, turn_out, closed, served, detached, cancelled_if, cancelled, freed_by, drained, change_seat, rests, generation_of, out_with, entry_out};
+ghost use Rattle.wd_machine.specs.Steps.{step, waits_too, has_due, added, registered, met, settled, arrived, landed, answered, begun, ran, emptied, unwaited, spared, ended, ended_if, returned, committed, replied, crossed, crossed_to, crossed_by, crossed_in, noted, noted_for, noted_by, noted_in, given_up, owing_answer, owing_arrivals, owing, followed, worked, concluded, conclusion, conclusion_of, done, turned, turn_out, closed, served, detached, cancelled_if, cancelled, freed_by, drained, change_seat, rests, generation_of, entry_out};
 
 use crate::compare::first_difference;
 use crate::ends::{ends, given_reply, whole_reply};

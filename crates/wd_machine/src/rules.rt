@@ -1,14 +1,12 @@
-ghost use Rattle.std.specs.Prelude.{◌≡◌, ◌==◌, IfOk, is_none, not, length, is_some};
+ghost use Rattle.std.specs.Prelude.{◌≡◌, ◌==◌, IfOk, is_none, length, is_some};
 ghost use Rattle.std.specs.Option.{option_copied};
 ghost use Rattle.wd_machine.specs.declared.refusal.Kept.TheVariants.{Number, Name, Field, Nothing};
 ghost use Rattle.std.specs.List.{find};
 ghost use Rattle.wd_graph.specs.Names.{service_of};
 ghost use Rattle.wd_machine.specs.Duties.{is_number};
-ghost use Rattle.wd_machine.specs.Found.{request_of, worker_for, waiters_at, waiting, front, holder_of, run_of, running_in, due_in, is_live_on};
-ghost use Rattle.wd_machine.specs.Rules.{kept_number, is_open, is_fresh, broken_arrive, broken_origin, broken_seat, broken_front, broken_begin, broken_field, broken_turn, is_op, flight_if, flight_in, broken_flight, broken_answer, broken_served, is_attached, outer_origin, is_outer, broken_cancel, broken_drain};
-ghost use Rattle.wd_machine.specs.Same.{first_difference};
+ghost use Rattle.wd_machine.specs.Found.{waiters_at, waiting, front, holder_of, run_of, running_in, due_in, is_live_on};
+ghost use Rattle.wd_machine.specs.Rules.{kept_number, is_open, is_fresh, broken_arrive, broken_origin, broken_front, broken_begin, broken_field, flight_in, broken_flight, broken_answer, broken_served, is_attached, outer_origin, is_outer, broken_cancel, broken_drain};
 
-use crate::compare::first_difference;
 use crate::find::{is_live_on, request_named, worker_named};
 use crate::refusal::{Kept, Refused};
 use crate::seat::is_number;

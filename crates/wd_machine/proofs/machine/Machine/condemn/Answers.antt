@@ -1,4 +1,4 @@
-use Rattle.std.proofs.Common.{sym, ap, ◌∙◌}
+use Rattle.std.proofs.Common.{sym, ◌∙◌}
 use Rattle.wd_machine.specs.declared.state.State.{State}
 use Rattle.wd_machine.specs.Steps.{gives_up_if}
 use Rattle.wd_machine.proofs.StepLemmas.{OnOk-map, worker_set_by}

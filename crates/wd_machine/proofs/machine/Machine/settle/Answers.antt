@@ -1,4 +1,4 @@
-use Rattle.std.proofs.Common.{sym, ap, ◌∙◌}
+use Rattle.std.proofs.Common.{sym, ◌∙◌}
 use Rattle.wd_machine.specs.declared.state.State.{State}
 use Rattle.wd_machine.specs.Duties.{settles}
 use Rattle.wd_machine.proofs.StepLemmas.{seat_set_by}
