@@ -71,14 +71,15 @@ pub reached_some : (services : List Service) (from : List ℕ) (number : ℕ) (n
 reached_some services from number numbers found reach name =
     let own : name_at services number ≡ from = number_name services from number found in
     let there : has_name services from ≡ true = sym (any_from_position (is_named from) services) ∙ ap is_some found in
-    let service = (numbered services from number found).service in
-    (λ h. let r = name_from services numbers name h in
-      let is = (reach.exact r.0).0 r.1 in
-      (there, subst (λ x. has_name services x ≡ true) r.2 (has_at services service r.0 is.0), subst (λ x. Reaches services x name) own (subst (λ x. Reaches services (name_at services number) x) r.2 is.1)),
-    λ h. let k = known_number services name h.1 in
-      let named = number_name services name k.0 k.1 in
-      let reached : IsReached services number k.0 = (place_within (is_named name) services k.0 k.1, subst (λ x. Reaches services (name_at services number) x) (sym named) (subst (λ x. Reaches services x name) (sym own) h.2)) in
-      subst (λ x. has_text (names_of services numbers) x ≡ true) named (name_to services numbers k.0 ((reach.exact k.0).1 reached)))
+    let service = (numbered services from number found).service in (
+      λ h. let r = name_from services numbers name h in
+          let is = (reach.exact r.0).0 r.1 in
+          (there, subst (λ x. has_name services x ≡ true) r.2 (has_at services service r.0 is.0), subst (λ x. Reaches services x name) own (subst (λ x. Reaches services (name_at services number) x) r.2 is.1)),
+      λ h. let k = known_number services name h.1 in
+          let named = number_name services name k.0 k.1 in
+          let reached : IsReached services number k.0 = (place_within (is_named name) services k.0 k.1, subst (λ x. Reaches services (name_at services number) x) (sym named) (subst (λ x. Reaches services x name) (sym own) h.2)) in
+          subst (λ x. has_text (names_of services numbers) x ≡ true) named (name_to services numbers k.0 ((reach.exact k.0).1 reached)),
+    )
 
 none_some : (x : ℕ) → ◌≡◌ {A = Option ℕ} None (Some x) → ⊥
 none_some x e = cc

@@ -20,7 +20,9 @@ use crate::find::{
 use crate::isolate::Isolate;
 use crate::journal::Entry;
 use crate::refusal::Refused;
-use crate::row::{has_landed, has_lost, has_replied, has_turned, is_detached, is_over, new_request};
+use crate::row::{
+    has_landed, has_lost, has_replied, has_turned, is_detached, is_over, new_request,
+};
 use crate::rules::{
     answer_refused, arrive_refused, begin_refused, cancel_refused, drain_refused, due_count,
     field_refused, nothing_refused, number_refused, run_of, served_refused,
@@ -345,7 +347,13 @@ impl<I> Machine<I> {
         let Some(at) = self.seat_place(seat) else {
             return Ok(());
         };
-        owes_arrivals(alloc, self.workers.as_slice(), req, ops, &mut self.seats[at])
+        owes_arrivals(
+            alloc,
+            self.workers.as_slice(),
+            req,
+            ops,
+            &mut self.seats[at],
+        )
     }
 
     /// What follows for the seat from an end, a reply and operations.
@@ -410,7 +418,10 @@ impl<I> Machine<I> {
     {
         let conclusion = self.conclusion(&pending)?;
         let Pending {
-            req, objects, out, ..
+            req,
+            objects,
+            out,
+            ..
         } = pending;
         let Some(conclusion) = conclusion else {
             return Ok(out);
@@ -577,12 +588,7 @@ impl<I> Machine<I> {
     }
 
     /// Why the seat's turn of the request may not end with this `Out`, if it may not.
-    pub fn turn_refused(
-        &self,
-        seat: Seat,
-        req: Req,
-        out: &Out,
-    ) -> Result<Option<Refused>, NoMemory>
+    pub fn turn_refused(&self, seat: Seat, req: Req, out: &Out) -> Result<Option<Refused>, NoMemory>
         ensures { IfOk result (λ r. r ≡ broken_turn (running_in (seat_at seat.0 self.now.seats)) self.now.requests self.now.workers req.0 out.now) }
     {
         match seat_named(self.seats.as_slice(), seat) {

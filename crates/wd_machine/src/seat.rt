@@ -5,15 +5,15 @@ ghost use Rattle.wd_machine.specs.Duties.{is_child_of, is_left_child, lesser, le
 ghost use Rattle.wd_machine.specs.Found.{request_of};
 ghost use Rattle.wd_machine.specs.Steps.{answer_of, runs, rests, has_due, has_drained};
 
+use crate::compare::same;
 use crate::find::{request_named, worker_named};
 use crate::journal::Entry;
-use crate::compare::same;
 use crate::state::{Duty, Pending, RequestState, SeatState, WorkerState};
 use std::alloc::Global;
 use std::mem;
 use wd_base::{
-    Bytes, NoMemory, Notes, ObjName, Op, OpResult, OpStart, Origin, Reply, Req, ReqData, Seq, Stack,
-    TryClone,
+    Bytes, NoMemory, Notes, ObjName, Op, OpResult, OpStart, Origin, Reply, Req, ReqData, Seq,
+    Stack, TryClone,
 };
 
 /// The origin is an operation of this request.
@@ -257,7 +257,11 @@ pub fn answer_of(rows: &[RequestState], req: Req, reply: Option<Reply>) -> Optio
 pub fn children_if(over: bool, req: Req) -> Option<Duty>
     ensures { result ≡ children_if over req }
 {
-    if over { Some(Duty::Children(req)) } else { None }
+    if over {
+        Some(Duty::Children(req))
+    } else {
+        None
+    }
 }
 
 /// The seat has one more duty in front, if there is one.

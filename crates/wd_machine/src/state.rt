@@ -1,6 +1,7 @@
 use crate::turn::Out;
 use wd_base::{
-    Bytes, Notes, NameList, Objects, Objs, Op, Origin, Queue, Reply, Req, ReqData, Seat, Seq, Stack, Wake,
+    Bytes, NameList, Notes, Objects, Objs, Op, Origin, Queue, Reply, Req, ReqData, Seat, Seq,
+    Stack, Wake,
 };
 
 /// A request that waits for a turn in its Worker's isolate, and what the turn is to take up.
