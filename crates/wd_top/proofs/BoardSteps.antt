@@ -258,9 +258,14 @@ ended_too m s s2 s3 n q service link request place r e found is2 is3 over all =
     let now : s3 ≡ turned (while_turn m s q service link request w.0) the_seat q = is3 ∙ ap (λ t. turned t the_seat q) (is2 ∙ begins m s n q service link request w.0 r e w.1) in
     subst (λ t. AreEnded t.requests) (sym now) (turned_ended m s n q service link request w.0 r e (subst (λ t. has_ended (request_of q.0 t.requests) ≡ true) now over) all)
 
--- the rows of the state are those after the entries
+-- the state is that after the entries
 pub over_after : {I : Type 0} (m : Meaning I) (world : Config) (s : State I) (j : List Entry) (n : ℕ) → Stands m world s j n → AreEnded s.requests → IsOver m world j
-over_after m world s j n st all = subst (λ t. AreEnded t.requests) st.state all
+over_after m world s j n st all = record {
+  ended = subst (λ t. AreEnded t.requests) st.state all;
+  running = subst (λ t. t.running ≡ []) st.state st.rests.running;
+  idle = subst (λ t. AreIdle t.workers) st.state st.rests.idle;
+  due = subst (λ t. t.due ≡ []) st.state st.rests.due;
+}
 
 -- BEFORE ANY ENTRY
 
@@ -283,3 +288,7 @@ first_stands m world = record {
   rests = record { rows = tt; count = refl; running = refl; due = refl; idle = idle_first m world.services world.services };
   count = refl;
 }
+
+-- where there is no entry all is at rest
+pub nothing_over : {I : Type 0} (m : Meaning I) (world : Config) (entries : List Entry) → entries ≡ [] → IsOver m world entries
+nothing_over m world entries e = subst (λ es. IsOver m world es) (sym e) (over_after m world (first_state m world) [] 0 (first_stands m world) tt)

@@ -47,9 +47,12 @@ abbrev pub has_ended : Option RequestState → Bool
 has_ended None = false
 has_ended (Some r) = r.ended
 
--- each request of the entries has ended
-abbrev pub IsOver : {I : Type 0} → Meaning I → Config → List Entry → Type 0
-IsOver m world entries = AreEnded (after m world entries).requests
+-- after the entries all is at rest: each request has ended, no turn runs, nothing waits for one, and nothing is due to be freed
+pub record IsOver {I : Type 0} (m : Meaning I) (world : Config) (entries : List Entry) : Type 0 where
+  pub ended : AreEnded (after m world entries).requests
+  pub running : (after m world entries).running ≡ []
+  pub idle : AreIdle (after m world entries).workers
+  pub due : (after m world entries).due ≡ []
 
 -- so many requests have arrived, no turn runs or waits, and nothing is to be freed
 pub record Rests {I : Type 0} (s : State I) (n : ℕ) : Type 0 where

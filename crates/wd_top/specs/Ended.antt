@@ -7,12 +7,14 @@ use Rattle.wd_machine.specs.declared.journal.Entry.{Entry}
 use Rattle.wd_machine.specs.declared.journal.Head.TheVariants.{Whole}
 use Rattle.wd_machine.specs.declared.journal.Journal.{Journal}
 use Rattle.wd_machine.specs.Runs.{legal}
+use Rattle.wd_plan.specs.declared.command.Verb.{Verb}
 use Rattle.wd_plan.specs.declared.command.Verb.TheVariants as verb
 use Rattle.wd_plan.specs.declared.refusal.Refusal.{Refusal}
 use Rattle.wd_plan.specs.declared.refusal.Refusal.TheVariants as refusal
 use Rattle.wd_plan.specs.Command.{command}
 use Rattle.wd_plan.specs.Constant.{constant_means}
 use Rattle.wd_plan.specs.Plan.{Plan, Refuses, Starts, Plans, IsReadPath}
+use Rattle.wd_plan.specs.Prepare.{IsAskedBy}
 use Rattle.wd_plan.specs.Refusal.{status_of as refusal_status}
 use Rattle.wd_ports.specs.declared.told.Faults.{Faults}
 use Rattle.wd_ports.specs.Faults.{Listen, part}
@@ -23,7 +25,7 @@ use Rattle.wd_top.specs.Board.{IsOver}
 use Rattle.wd_top.specs.Outcome.{Reports}
 use Rattle.wd_top.specs.Session.{Session, Done}
 use Rattle.wd_top.specs.Table.{addresses}
-use Rattle.wd_top.specs.Talk.{IsOfSeat}
+use Rattle.wd_top.specs.Talk.{IsNumbered, IsOfSeat}
 
 -- the port could not listen at this address, or memory was wanting
 abbrev pub IsListenEnd : Addr → Outcome → Type 0
@@ -82,11 +84,16 @@ IsEarly (outcome.Refused why) = Unit {0}
 IsEarly outcome.NoMemory = Unit {0}
 IsEarly _ = ⊥
 
--- where the world has a socket, a port was made, and is handed out
-abbrev pub HasPort : Outcome → Type 0
-HasPort outcome.Done = Unit {0}
-HasPort (outcome.NoListen address) = Unit {0}
-HasPort _ = ⊥
+-- a port could not listen
+abbrev pub CouldNotListen : Outcome → Type 0
+CouldNotListen (outcome.NoListen address) = Unit {0}
+CouldNotListen _ = ⊥
+
+-- a port was made, and is handed out: where a session is done whose world has a socket, and where a port could not listen
+abbrev pub HasPort : Config → Outcome → Type 0
+HasPort world outcome.Done = 0 < length world.sockets
+HasPort world (outcome.NoListen address) = Unit {0}
+HasPort world _ = ⊥
 
 -- no port could be made, or it could not listen
 abbrev pub IsPortFault : Outcome → Type 0
@@ -99,12 +106,14 @@ abbrev pub NoPortMade : Outcome → Type 0
 NoPortMade (outcome.NoPort seat) = Unit {0}
 NoPortMade _ = ⊥
 
--- what a call is given, and what failed in it: its words, the told files, whether a read of them failed, and whether the maker did
+-- what a call is given, and what failed in it: its words, the told files, whether a read of them failed, whether the maker
+-- did, and whether a port that is handed out failed to listen
 pub record Call : Type 1 where
   pub words : List (List ℕ)
   pub files : Option Stored
   pub read_failed : Type 0
   pub maker_failed : Type 0
+  pub listen_failed : Type 0
 
 -- what a call prints: what the sink held before it and holds after it, and how often the sink had failed and has failed
 pub record Printed : Type 0 where
@@ -117,6 +126,10 @@ pub record Printed : Type 0 where
 abbrev pub Asks : Call → Plan → Type 0
 Asks call plan = IfSome call.files (λ s. Plans call.words s plan)
 
+-- the words have this verb, whatever is told of the files, and with the told files they ask for this world
+abbrev pub AsksTo : Verb → Call → Config → Type 0
+AsksTo v call world = IsAskedBy (command call.words) v × Asks call (Starts v world)
+
 -- the cause of a refusal
 abbrev pub RefusedFor : Call → Refusal → Type 0
 RefusedFor call refusal.CommandLine = command call.words ≡ None
@@ -125,11 +138,11 @@ RefusedFor call why = Asks call (Refuses why)
 
 -- the cause of each outcome
 abbrev pub Caused : Call → Config → Outcome → Type 0
-Caused call world outcome.Done = Asks call (Starts verb.Serve world)
-Caused call world (outcome.Checked services sockets) = Asks call (Starts verb.Check world) × (services ≡ length world.services) × (sockets ≡ length world.sockets)
+Caused call world outcome.Done = AsksTo verb.Serve call world
+Caused call world (outcome.Checked services sockets) = AsksTo verb.Check call world × (services ≡ length world.services) × (sockets ≡ length world.sockets)
 Caused call world (outcome.Refused why) = RefusedFor call why
-Caused call world (outcome.NoPort seat) = (seat.0 ≡ 0) × Asks call (Starts verb.Serve world) × call.maker_failed
-Caused call world (outcome.NoListen address) = Asks call (Starts verb.Serve world)
+Caused call world (outcome.NoPort seat) = (seat.0 ≡ 0) × AsksTo verb.Serve call world × call.maker_failed
+Caused call world (outcome.NoListen address) = AsksTo verb.Serve call world × call.listen_failed
 Caused call world outcome.NoMemory = Unit {0}
 
 -- the outcome has its cause, for some world
@@ -147,37 +160,44 @@ pub record EndsOffline (call : Call) (printed : Printed) (status : ℕ) : Type 0
 abbrev pub IsEmpty : Journal → ℕ → Type 0
 IsEmpty journal ports = (journal.entries ≡ []) × (ports ≡ 0)
 
--- What a session leaves: a whole journal of seat 0 that is a legal run of the world, one port where one was made, and what
--- holds of it. Where a port could not be had, no request has arrived, and at the end each has ended. A world without sockets
--- makes no port, and its session is empty.
-pub record Ran (world : Config) (maker_failed : Type 0) (o : Outcome) (journal : Journal) (ports : ℕ) (at_ports : Type 0) : Type 0 where
+-- What a session leaves: a whole journal of seat 0 that is a legal run of the world, its requests numbered in order, one
+-- port where one was made, and what holds of it. Where a port could not be had, no request has arrived, and at the end all is
+-- at rest. Where a request has arrived, also at want of memory, its port is handed out. A world without sockets makes no
+-- port, and its session is empty.
+pub record Ran (world : Config) (maker_failed listen_failed : Type 0) (o : Outcome) (journal : Journal) (ports : ℕ) (at_ports : Type 0) : Type 0 where
   pub end : IsSessionEnd o
   pub whole : journal.head ≡ Whole
   pub run : legal constant_means world journal ≡ true
   pub seat : IsOfSeat 0 journal.entries
+  pub numbered : IsNumbered journal.entries
   pub unused : IsPortFault o → journal.entries ≡ []
   pub over : o ≡ outcome.Done → IsOver constant_means world journal.entries
   pub few : ports ≤ 1
-  pub one : HasPort o → 0 < length world.sockets → ports ≡ 1
+  pub one : HasPort world o → ports ≡ 1
+  pub held : (journal.entries ≡ []) ⊎ (ports ≡ 1)
   pub idle : world.sockets ≡ [] → (ports ≡ 0) × (journal.entries ≡ [])
   pub none : NoPortMade o → (ports ≡ 0) × maker_failed
+  pub blamed : CouldNotListen o → listen_failed
   pub at : at_ports
 
--- An outcome with its cause, and what it leaves: a whole journal of seat 0 that is a legal run of the world, one port where
--- one was made, and what holds of it. An outcome without a session leaves nothing, and where a port could not be had no
--- request has arrived; where the session is done each has ended. A world without sockets makes no port, and its session is
--- empty. At want of memory the world is the one that is asked for, where there was a session.
+-- An outcome with its cause, and what it leaves: a whole journal of seat 0 that is a legal run of the world, its requests
+-- numbered in order, one port where one was made, and what holds of it. An outcome without a session leaves nothing, and
+-- where a port could not be had no request has arrived; where the session is done all is at rest. Where a request has
+-- arrived, also at want of memory, its port is handed out. A world without sockets makes no port, and its session is empty.
+-- At want of memory the world is the one that is asked for, where there was a session.
 pub record Comes (call : Call) (o : Outcome) (journal : Journal) (ports : ℕ) (at_ports : Config → Type 0) : Type 0 where
   pub world : Config
   pub caused : Caused call world o
-  pub early : IsEarly o → IsEmpty journal ports ⊎ ((o ≡ outcome.NoMemory) × Asks call (Starts verb.Serve world))
+  pub early : IsEarly o → IsEmpty journal ports ⊎ ((o ≡ outcome.NoMemory) × AsksTo verb.Serve call world)
   pub whole : journal.head ≡ Whole
   pub run : legal constant_means world journal ≡ true
   pub seat : IsOfSeat 0 journal.entries
+  pub numbered : IsNumbered journal.entries
   pub unused : IsPortFault o → journal.entries ≡ []
   pub over : o ≡ outcome.Done → IsOver constant_means world journal.entries
   pub few : ports ≤ 1
-  pub one : HasPort o → 0 < length world.sockets → ports ≡ 1
+  pub one : HasPort world o → ports ≡ 1
+  pub held : (journal.entries ≡ []) ⊎ (ports ≡ 1)
   pub idle : world.sockets ≡ [] → (ports ≡ 0) × (journal.entries ≡ [])
   pub at : at_ports world
 
@@ -187,12 +207,14 @@ pub record Ends (call : Call) (printed : Printed) (status : ℕ) (journal : Jour
   pub comes : Comes call outcome journal ports (at_ports outcome)
   pub reports : Reports outcome status printed.before printed.after printed.failures_before printed.failures_after
 
--- the statuses that a plan allows, where no read and no print failed and memory was there: just one, but for a session
-abbrev pub status_for : Plan → ℕ → Type 0
-status_for (Refuses why) status = status ≡ refusal_status why
-status_for (Starts verb.Check world) status = status ≡ 0
-status_for (Starts verb.Serve world) status = (status ≡ 0) ⊎ (status ≡ 7)
+-- the statuses that a plan allows, where no read and no print failed and memory was there: just one, but for a session, which
+-- is done, or had no port, or one that failed to listen
+abbrev pub status_for : Type 0 → Plan → ℕ → Type 0
+status_for port_failed (Refuses why) status = status ≡ refusal_status why
+status_for port_failed (Starts verb.Check world) status = status ≡ 0
+status_for port_failed (Starts verb.Serve world) status = (status ≡ 0) ⊎ ((status ≡ 7) × port_failed)
 
 -- each status comes where its cause is, but for 5 where a read failed, 4 where the sink failed, and 9
-abbrev pub IsStatus : List (List ℕ) → Stored → Type 0 → Type 0 → ℕ → Type 0
-IsStatus words files read_rose sink_rose status = (plan : Plan) → Plans words files plan → status_for plan status ⊎ (((status ≡ 5) × read_rose) ⊎ (((status ≡ 4) × sink_rose) ⊎ (status ≡ 9)))
+abbrev pub IsStatus : List (List ℕ) → Stored → Type 0 → Type 0 → Type 0 → ℕ → Type 0
+IsStatus words files read_failed port_failed sink_failed status = (plan : Plan) → Plans words files plan
+    → status_for port_failed plan status ⊎ (((status ≡ 5) × read_failed) ⊎ (((status ≡ 4) × sink_failed) ⊎ (status ≡ 9)))

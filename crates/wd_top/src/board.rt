@@ -241,14 +241,8 @@ impl<I: Isolate + Drop> Board<I> {
 }
 
 impl<I: Isolate> Board<I> {
-    /// The entries are at any time a legal journal of seat 0, with its requests numbered in order.
-    pub fn is_run(&self)
-        ensures { IsRun I.means self.now.0 self.now.1 }
-    {
-        let _ = &self.entries;
-    }
-
-    /// Whether each request that arrived has ended. It is false after want of memory.
+    /// Whether all is at rest: each request that arrived has ended, and nothing runs, waits or is due.
+    /// It is false after want of memory.
     #[tactic(auto, using(crate::proofs::BoardSteps::over_after))]
     pub fn is_over(&self) -> bool
         ensures { IsTrue result → IsOver I.means self.now.0 self.now.1 }

@@ -1,9 +1,9 @@
-ghost use Rattle.std.specs.Prelude.{◌≡◌, ◌<◌, ◌≤◌, [], ◌∷◌, ◌++◌, length, vec_len, vec_capacity, IfErr, IfSome, OnOk, All};
-ghost use Rattle.wd_ports.specs.Faults.{Rose};
+ghost use Rattle.std.specs.Prelude.{◌≡◌, ◌⊎◌, ◌<◌, ◌≤◌, [], ◌∷◌, ◌++◌, length, vec_len, vec_capacity, IfErr, IfSome, OnOk, All, Any};
+ghost use Rattle.wd_ports.specs.Faults.{Listen, Rose, part};
 ghost use Rattle.wd_ports.specs.Told.{IsNewPort};
 ghost use Rattle.wd_top.specs.declared.outcome.Outcome.TheVariants as outcome;
 ghost use Rattle.wd_top.specs.Board.{IsOver};
-ghost use Rattle.wd_top.specs.Ended.{IsFront, Listens, IsListenEnd, Holds, HasPort, IsSessionEnd, IsPortFault, NoPortMade};
+ghost use Rattle.wd_top.specs.Ended.{IsFront, Listens, IsListenEnd, Holds, HasPort, CouldNotListen, IsSessionEnd, IsPortFault, NoPortMade};
 ghost use Rattle.wd_top.specs.Table.{addresses, SameFiles};
 
 use crate::board::Board;
@@ -80,7 +80,7 @@ fn add_port<P: Drop>(ports: &mut Vec<P>, port: P)
 
 /// The session over the port that the maker gives for the one seat. The port is handed out, also
 /// where it could not listen. A world without sockets makes none.
-#[tactic(auto, using(crate::proofs::EndSteps::nothing_over))]
+#[tactic(auto, using(crate::proofs::BoardSteps::nothing_over))]
 pub fn run_ports<R: Wait, M: Maker, I: Isolate>(
     rt: &R,
     alloc: Global,
@@ -91,7 +91,9 @@ pub fn run_ports<R: Wait, M: Maker, I: Isolate>(
     requires ports { ports.old.items ≡ [] }
     requires journal { board.old.1 ≡ [] }
     ensures ports { All (λ p. Holds board.old.0 result (M.Port.Files.told p) (M.Port.Files.gone p) (M.Port.Files.faults p) board.new.1) ports.new.items }
-    ensures one { HasPort result → 0 < length board.old.0.sockets → length ports.new.items ≡ 1 }
+    ensures one { HasPort board.old.0 result → length ports.new.items ≡ 1 }
+    ensures held { (board.new.1 ≡ []) ⊎ (length ports.new.items ≡ 1) }
+    ensures blamed { CouldNotListen result → Any (λ p. 0 < part Listen (M.Port.Files.faults p)) ports.new.items }
     ensures idle { board.old.0.sockets ≡ [] → (ports.new.items ≡ []) × (board.new.1 ≡ []) }
     ensures none { NoPortMade result → (ports.new.items ≡ []) × Rose (M.failures maker.old) (M.failures maker.new) }
     ensures few { length ports.new.items ≤ 1 }

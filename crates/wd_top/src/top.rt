@@ -1,4 +1,4 @@
-ghost use Rattle.std.specs.Prelude.{◌≡◌, ◌↔◌, ◌⊎◌, [], length, map, string_bytes, None, true, false, Err, IfOk, IfErr, IfSome, All};
+ghost use Rattle.std.specs.Prelude.{◌≡◌, ◌<◌, ◌↔◌, ◌⊎◌, [], length, map, string_bytes, None, true, false, Err, IfOk, IfErr, IfSome, All, Any};
 ghost use Rattle.wd_graph.specs.Links.{first_unknown};
 ghost use Rattle.wd_machine.specs.declared.journal.Head.TheVariants.{Whole};
 ghost use Rattle.wd_machine.specs.First.{AreFirst};
@@ -7,8 +7,8 @@ ghost use Rattle.wd_plan.specs.declared.refusal.Refusal.TheVariants as RefusalIs
 ghost use Rattle.wd_plan.specs.Command.{command, is_serve};
 ghost use Rattle.wd_plan.specs.Constant.{constant_means};
 ghost use Rattle.wd_plan.specs.Plan.{Plans, Starts};
-ghost use Rattle.wd_plan.specs.Prepare.{IsPrepared};
-ghost use Rattle.wd_ports.specs.Faults.{ReadFile, Rose, RoseIn};
+ghost use Rattle.wd_plan.specs.Prepare.{IsAskedBy, IsPrepared};
+ghost use Rattle.wd_ports.specs.Faults.{Listen, ReadFile, Rose, RoseIn, part};
 ghost use Rattle.wd_top.specs.declared.outcome.Outcome.TheVariants as OutcomeIs;
 ghost use Rattle.wd_top.specs.Ended.{Comes, Ends, EndsOffline, Holds, IsCaused, IsEarly, IsStatus, Ran as Runs};
 ghost use Rattle.wd_top.specs.Table.{SameFiles};
@@ -61,7 +61,7 @@ fn early(alloc: Global, outcome: Outcome) -> Ran
 }
 
 /// The session of what is ready.
-#[tactic(auto, using(crate::proofs::EndSteps::no_entries))]
+#[tactic(auto, using(crate::proofs::EndSteps::no_entries, crate::proofs::EndSteps::no_numbers))]
 fn serve<R: Wait, M: Maker>(
     rt: &R,
     alloc: Global,
@@ -73,7 +73,7 @@ fn serve<R: Wait, M: Maker>(
     requires first { AreFirst constant_means world isolates.items }
     requires known { first_unknown world ≡ None }
     requires ports { ports.old.items ≡ [] }
-    ensures ran { Runs world (Rose (M.failures maker.old) (M.failures maker.new)) result.outcome result.journal (length ports.new.items)
+    ensures ran { Runs world (Rose (M.failures maker.old) (M.failures maker.new)) (Any (λ p. 0 < part Listen (M.Port.Files.faults p)) ports.new.items) result.outcome result.journal (length ports.new.items)
         (All (λ p. Holds world result.outcome (M.Port.Files.told p) (M.Port.Files.gone p) (M.Port.Files.faults p) result.journal.entries) ports.new.items) }
     ensures files { All (λ p. IfSome (M.plan maker.old (record { 0 = 0 })) (λ t. SameFiles t (M.Port.Files.told p))) ports.new.items }
 {
@@ -96,13 +96,14 @@ fn checked(world: &World) -> Outcome
 }
 
 /// What is to be served, and else how the call comes out without a session.
-#[tactic(auto, using(wd_plan::proofs::PlanLaws::serve_asked))]
+#[tactic(auto, using(wd_plan::proofs::PlanLaws::serve_asked, crate::proofs::EndSteps::asked_to_serve))]
 fn begin<F: Files>(alloc: Global, words: &[String], files: &mut F) -> Result<Ready, Outcome>
     ensures ready { IfOk result IsPrepared }
     ensures asked { IfOk result (λ ready. IfSome (F.told files.old).files (λ s. Plans (map string_bytes words.now) s (Starts VerbIs.Serve ready.world))) }
     ensures serves { IfOk result (λ ready. is_serve (command (map string_bytes words.now)) ≡ true) }
+    ensures verb { IfOk result (λ ready. IsAskedBy (command (map string_bytes words.now)) VerbIs.Serve) }
     ensures early { IfErr result IsEarly }
-    ensures caused { IfErr result (IsCaused (record { words = map string_bytes words.now; files = (F.told files.old).files; read_failed = RoseIn ReadFile (F.faults files.old) (F.faults files.new); maker_failed = ⊥ })) }
+    ensures caused { IfErr result (IsCaused (record { words = map string_bytes words.now; files = (F.told files.old).files; read_failed = RoseIn ReadFile (F.faults files.old) (F.faults files.new); maker_failed = ⊥; listen_failed = ⊥ })) }
     ensures words { (result ≡ Err (OutcomeIs.Refused RefusalIs.CommandLine)) ↔ (command (map string_bytes words.now) ≡ None) }
     ensures tells { F.told files.new ≡ F.told files.old }
 {
@@ -126,7 +127,7 @@ fn run<R: Wait, F: Files, M: Maker>(
     ports: &mut Vec<M::Port>,
 ) -> Ran
     requires { ports.old.items ≡ [] }
-    ensures comes { Comes (record { words = map string_bytes words.now; files = (F.told files.old).files; read_failed = RoseIn ReadFile (F.faults files.old) (F.faults files.new); maker_failed = Rose (M.failures maker.old) (M.failures maker.new) }) result.outcome result.journal (length ports.new.items)
+    ensures comes { Comes (record { words = map string_bytes words.now; files = (F.told files.old).files; read_failed = RoseIn ReadFile (F.faults files.old) (F.faults files.new); maker_failed = Rose (M.failures maker.old) (M.failures maker.new); listen_failed = Any (λ p. 0 < part Listen (M.Port.Files.faults p)) ports.new.items }) result.outcome result.journal (length ports.new.items)
         (λ world. All (λ p. Holds world result.outcome (M.Port.Files.told p) (M.Port.Files.gone p) (M.Port.Files.faults p) result.journal.entries) ports.new.items) }
     ensures words { (result.outcome ≡ OutcomeIs.Refused RefusalIs.CommandLine) ↔ (command (map string_bytes words.now) ≡ None) }
     ensures tells { F.told files.new ≡ F.told files.old }
@@ -152,8 +153,8 @@ fn run<R: Wait, F: Files, M: Maker>(
 /// for.
 pub fn offline<F: Files, K: Sink>(alloc: Global, words: &[String], files: &mut F, out: &mut K) -> u8
     requires { is_serve (command (map string_bytes words.now)) ≡ false }
-    ensures ends { EndsOffline (record { words = map string_bytes words.now; files = (F.told files.old).files; read_failed = RoseIn ReadFile (F.faults files.old) (F.faults files.new); maker_failed = ⊥ }) (record { before = K.held out.old; after = K.held out.new; failures_before = K.failures out.old; failures_after = K.failures out.new }) result }
-    ensures status { IfSome (F.told files.old).files (λ s. IsStatus (map string_bytes words.now) s (RoseIn ReadFile (F.faults files.old) (F.faults files.new)) (Rose (K.failures out.old) (K.failures out.new)) result) }
+    ensures ends { EndsOffline (record { words = map string_bytes words.now; files = (F.told files.old).files; read_failed = RoseIn ReadFile (F.faults files.old) (F.faults files.new); maker_failed = ⊥; listen_failed = ⊥ }) (record { before = K.held out.old; after = K.held out.new; failures_before = K.failures out.old; failures_after = K.failures out.new }) result }
+    ensures status { IfSome (F.told files.old).files (λ s. IsStatus (map string_bytes words.now) s (RoseIn ReadFile (F.faults files.old) (F.faults files.new)) ⊥ (Rose (K.failures out.old) (K.failures out.new)) result) }
     ensures words { command (map string_bytes words.now) ≡ None → (result ≡ 1) ⊎ (((result ≡ 4) × Rose (K.failures out.old) (K.failures out.new)) ⊎ (result ≡ 9)) }
     ensures files { F.told files.new ≡ F.told files.old }
 {
@@ -178,9 +179,9 @@ pub fn workerd<R: Threads + Wait + Sync, F: Files, M: Maker, K: Sink, G: Gate>(
     out: &mut K,
     _gate: &G,
 ) -> Ended<M::Port>
-    ensures ends { Ends (record { words = map string_bytes words.now; files = (F.told files.old).files; read_failed = RoseIn ReadFile (F.faults files.old) (F.faults files.new); maker_failed = Rose (M.failures maker.old) (M.failures maker.new) }) (record { before = K.held out.old; after = K.held out.new; failures_before = K.failures out.old; failures_after = K.failures out.new }) result.status result.journal (length result.ports.items)
+    ensures ends { Ends (record { words = map string_bytes words.now; files = (F.told files.old).files; read_failed = RoseIn ReadFile (F.faults files.old) (F.faults files.new); maker_failed = Rose (M.failures maker.old) (M.failures maker.new); listen_failed = Any (λ p. 0 < part Listen (M.Port.Files.faults p)) result.ports.items }) (record { before = K.held out.old; after = K.held out.new; failures_before = K.failures out.old; failures_after = K.failures out.new }) result.status result.journal (length result.ports.items)
         (λ o world. All (λ p. Holds world o (M.Port.Files.told p) (M.Port.Files.gone p) (M.Port.Files.faults p) result.journal.entries) result.ports.items) }
-    ensures status { IfSome (F.told files.old).files (λ s. IsStatus (map string_bytes words.now) s (RoseIn ReadFile (F.faults files.old) (F.faults files.new)) (Rose (K.failures out.old) (K.failures out.new)) result.status) }
+    ensures status { IfSome (F.told files.old).files (λ s. IsStatus (map string_bytes words.now) s (RoseIn ReadFile (F.faults files.old) (F.faults files.new)) (Rose (M.failures maker.old) (M.failures maker.new) ⊎ Any (λ p. 0 < part Listen (M.Port.Files.faults p)) result.ports.items) (Rose (K.failures out.old) (K.failures out.new)) result.status) }
     ensures words { command (map string_bytes words.now) ≡ None → (result.status ≡ 1) ⊎ (((result.status ≡ 4) × Rose (K.failures out.old) (K.failures out.new)) ⊎ (result.status ≡ 9)) }
     ensures files { F.told files.new ≡ F.told files.old }
     ensures disks { All (λ p. IfSome (M.plan maker.old (record { 0 = 0 })) (λ t. SameFiles t (M.Port.Files.told p))) result.ports.items }
