@@ -19,6 +19,7 @@ use Rattle.capnp_text.specs.Grammar.{most_open}
 use Rattle.capnp_text.specs.Machine.{read}
 use Rattle.capnp_text.specs.Run.{Stuck}
 
+-- the kind of fault that is answered for each reason to refuse a token
 abbrev pub kind_of : Refusal → TextKind
 kind_of refusal.BadToken = kind.BadToken
 kind_of refusal.BadDecl = kind.BadDecl
@@ -29,22 +30,27 @@ abbrev pub ran : Result State (Stuck Token Refusal) → Result State TextFault
 ran (Ok s) = Ok s
 ran (Err k) = Err (record { kind = kind_of k.why; place = k.item.place })
 
+-- no file: a fault of this kind at this offset
 abbrev pub fault : TextKind → ℕ → Result (List Decl) TextFault
 fault k p = Err (record { kind = k; place = p })
 
+-- what a text that ends here is: its declarations, if the last of them is whole; else an unclosed one
 abbrev pub finished : ℕ → List Decl → At → Result (List Decl) TextFault
 finished p ds at.Decl = Ok ds
 finished p ds _ = fault kind.Unclosed p
 
+-- what a text is whose tokens stop so at this offset, once all of them are taken
 abbrev pub at_stop : Stop → ℕ → State → Result (List Decl) TextFault
 at_stop stop.End p s = finished p s.decls s.at
 at_stop stop.Open p s = fault kind.Unclosed p
 at_stop stop.BadByte p s = fault kind.BadByte p
 
+-- the first fault: of a token, if one was refused, and else of how the tokens stop
 abbrev pub judged : Stop → ℕ → Result State TextFault → Result (List Decl) TextFault
 judged stop p (Ok s) = at_stop stop p s
 judged stop p (Err f) = Err f
 
+-- what a text of these tokens is: its declarations, or its first fault
 abbrev pub answer : Tokens → Result (List Decl) TextFault
 answer t = judged t.stop t.place (ran (read most_open t.tokens))
 

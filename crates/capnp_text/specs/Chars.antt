@@ -3,6 +3,7 @@ use Rattle.std.specs.Prelude.{ℕ, ◌+◌, ◌-◌, ◌*◌, Bool, cond, ◌&&�
 use Rattle.capnp_text.specs.declared.token.TokenKind.{TokenKind}
 use Rattle.capnp_text.specs.declared.token.TokenKind.TheVariants as tok
 
+-- from `low` to `high`, both included
 abbrev pub is_between : ℕ → ℕ → ℕ → Bool
 is_between low high b = nat_le low b && nat_le b high
 

@@ -39,6 +39,7 @@ pub record AtToken (ts : List Token) (f : TextFault) : Type 0 where
   pub at : f.place ≡ token.place
   pub because : Because f.kind before token
 
+-- Which kind of fault each way to stop is: a bad byte, an open token, or a last declaration that is not whole.
 abbrev pub EndsSo : Stop → TextKind → List Token → Type 0
 EndsSo stop.BadByte k ts = k ≡ kind.BadByte
 EndsSo stop.Open k ts = k ≡ kind.Unclosed

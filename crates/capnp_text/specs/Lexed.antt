@@ -17,11 +17,13 @@ pub data Letter : Type 0 where
   -- `\x` and two digits
   Code : ℕ → ℕ → Letter
 
+-- how the byte is spelled between double quotes
 abbrev pub letter_bytes : Letter → List ℕ
 letter_bytes (Raw b) = b ∷ []
 letter_bytes (Escape b) = 92 ∷ b ∷ []
 letter_bytes (Code high low) = 92 ∷ 120 ∷ high ∷ low ∷ []
 
+-- the byte that is stood for
 abbrev pub letter_value : Letter → ℕ
 letter_value (Raw b) = b
 letter_value (Escape b) = escaped b
@@ -31,6 +33,7 @@ letter_value (Code high low) = byte_of high low
 abbrev pub is_raw : ℕ → Bool
 is_raw b = not (b == 34 || (b == 92 || b == 10))
 
+-- the spelling is allowed: a raw byte, a known escape, or two hexadecimal digits
 abbrev pub IsLetter : Letter → Type 0
 IsLetter (Raw b) = is_raw b ≡ true
 IsLetter (Escape b) = is_escape b ≡ true
@@ -42,18 +45,23 @@ pub record Pair : Type 0 where
   pub high : ℕ
   pub low : ℕ
 
+-- so many blanks, byte 32
 abbrev pub spaces : ℕ → List ℕ
 spaces n = replicate n 32
 
+-- how a pair is spelled: its blanks, then both digits
 abbrev pub pair_bytes : Pair → List ℕ
 pair_bytes p = spaces p.spaces ++ p.high ∷ p.low ∷ []
 
+-- the byte that both digits stand for
 abbrev pub pair_value : Pair → ℕ
 pair_value p = byte_of p.high p.low
 
+-- both are hexadecimal digits
 abbrev pub IsPair : Pair → Type 0
 IsPair p = (is_hex p.high ≡ true) × (is_hex p.low ≡ true)
 
+-- the property holds of each item of the list
 abbrev pub Every : {A : Type 0} → (A → Type 0) → List A → Type 0
 Every P [] = Unit {0}
 Every P (x ∷ xs) = P x × Every P xs
@@ -63,6 +71,7 @@ abbrev pub ArePairs : List Pair → Type 0
 ArePairs [] = Unit {0}
 ArePairs (p ∷ ps) = (p.spaces ≡ 0) × IsPair p × Every IsPair ps
 
+-- what a text is made of: a blank, a comment, or a token as it is spelled
 pub data Piece : Type 0 where
   Blank : ℕ → Piece
   -- from `#` to LF
@@ -77,6 +86,7 @@ pub data Piece : Type 0 where
   Data : List Pair → Piece
   Sign : ℕ → TokenKind → Piece
 
+-- the bytes that each kind of piece is spelled with
 abbrev pub piece_bytes : Piece → List ℕ
 piece_bytes (Blank b) = b ∷ []
 piece_bytes (Comment c) = 35 ∷ (c ++ 10 ∷ [])
@@ -87,12 +97,15 @@ piece_bytes (Text ls) = 34 ∷ (flat_map letter_bytes ls ++ 34 ∷ [])
 piece_bytes (Data ps) = 48 ∷ 120 ∷ 34 ∷ (flat_map pair_bytes ps ++ 34 ∷ [])
 piece_bytes (Sign b t) = b ∷ []
 
+-- not the byte that ends a line, LF
 abbrev pub IsLine : ℕ → Type 0
 IsLine b = (b == 10) ≡ false
 
+-- the byte is of this class
 abbrev pub Passes : (ℕ → Bool) → ℕ → Type 0
 Passes f b = f b ≡ true
 
+-- the piece is spelled as its kind allows
 abbrev pub IsPiece : Piece → Type 0
 IsPiece (Blank b) = is_blank b ≡ true
 IsPiece (Comment c) = Every IsLine c
@@ -115,6 +128,7 @@ Ends (Number b w) bs = Apart bs
 Ends (Hex b w) bs = Apart bs
 Ends _ bs = Unit {0}
 
+-- the bytes of the pieces, one after another
 abbrev pub text_of : List Piece → List ℕ
 text_of ps = flat_map piece_bytes ps
 
@@ -134,6 +148,7 @@ piece_tokens (Text ls) n = record { place = n; kind = tok.Text (map letter_value
 piece_tokens (Data ps) n = record { place = n; kind = tok.Data (map pair_value ps) } ∷ []
 piece_tokens (Sign b t) n = record { place = n; kind = t } ∷ []
 
+-- all tokens of a text's pieces in order, each with its offset
 abbrev pub tokens_of : ℕ → List Piece → List Token
 tokens_of n [] = []
 tokens_of n (p ∷ ps) = piece_tokens p n ++ tokens_of (n + length (piece_bytes p)) ps
@@ -151,6 +166,7 @@ abbrev pub MaySpace : List Pair → ℕ → Type 0
 MaySpace [] n = n ≡ 0
 MaySpace (p ∷ ps) n = Unit {0}
 
+-- what may stand after the last whole piece, at the end of the bytes
 pub data Tail : Type 0 where
   Nothing : Tail
   -- a comment whose line has no end
@@ -160,6 +176,7 @@ pub data Tail : Type 0 where
   OpenHex : Tail
   OpenData : List Pair → ℕ → List ℕ → Tail
 
+-- how each unfinished end is spelled
 abbrev pub tail_bytes : Tail → List ℕ
 tail_bytes Nothing = []
 tail_bytes (OpenComment c) = 35 ∷ c
@@ -167,6 +184,7 @@ tail_bytes (OpenText ls part) = 34 ∷ (flat_map letter_bytes ls ++ part)
 tail_bytes OpenHex = 48 ∷ 120 ∷ []
 tail_bytes (OpenData ps n part) = 48 ∷ 120 ∷ 34 ∷ (flat_map pair_bytes ps ++ part)
 
+-- the unfinished end is spelled as its kind allows
 abbrev pub IsTail : Tail → Type 0
 IsTail Nothing = Unit {0}
 IsTail (OpenComment c) = Every IsLine c
@@ -205,6 +223,7 @@ pub record FirstBad (bs : List ℕ) (ts : List Token) (place : ℕ) : Type 0 whe
   pub cut : IsCut before ts open_
   pub refused : (more : List ℕ) (us : List Token) → IsLexed (before ++ byte ∷ more) us → ⊥
 
+-- the tokens end at this offset for this reason: at the end of the bytes, within a token, or at a bad byte
 abbrev pub StopsSo : List ℕ → List Token → ℕ → Stop → Type 0
 StopsSo bs ts n stop.End = IsLexed bs ts × (n ≡ length bs)
 StopsSo bs ts n stop.Open = IsCut bs ts true × (n ≡ length bs)

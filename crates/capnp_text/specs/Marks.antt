@@ -4,6 +4,7 @@ use Rattle.capnp_text.specs.declared.token.TokenKind.{TokenKind}
 use Rattle.capnp_text.specs.declared.token.TokenKind.TheVariants.{Comma}
 use Rattle.capnp_text.specs.declared.token.Token.{Token}
 
+-- a pattern of at most one token
 pub data Mark : Type 0 where
   -- this token, at any place
   Just : TokenKind → Mark
@@ -12,6 +13,7 @@ pub data Mark : Type 0 where
   -- a comma, or nothing
   MayComma : Mark
 
+-- the tokens are those of one pattern
 abbrev pub OfMark : Mark → List Token → Type 0
 OfMark (Just t) ts = (p : ℕ) × (ts ≡ record { place = p; kind = t } ∷ [])
 OfMark (At p t) ts = ts ≡ record { place = p; kind = t } ∷ []

@@ -41,6 +41,7 @@ use Rattle.js_grammar.specs.Marks.{Just, At, Mark, Form, mark, sign, word, unbro
 
 -- ---- words and names
 
+-- a reserved word stands there, at any place
 abbrev pub reserved : Reserved → Form
 reserved x = one (word x)
 
@@ -48,6 +49,7 @@ reserved x = one (word x)
 abbrev pub reserved_at : ℕ → Reserved → Form
 reserved_at q x = one (mark (At q (tok.Reserved x)))
 
+-- the token of a name, at the place that the tree keeps
 abbrev pub name_mark : Name → Mark
 name_mark n = mark (At n.place (tok.Name n.units))
 
@@ -55,6 +57,7 @@ name_mark n = mark (At n.place (tok.Name n.units))
 abbrev pub name : Name → Form
 name n = one (name_mark n)
 
+-- what a name alone is written as
 abbrev pub name_forms : Name → List Form
 name_forms n = name n ∷ []
 
@@ -71,6 +74,7 @@ abbrev pub perhaps_async : Bool → List Form → List Form
 perhaps_async true fs = async ∷ on_one_line fs
 perhaps_async false fs = fs
 
+-- what a part is written as that may be missing: nothing where it is
 abbrev pub optional : Option (List Form) → List Form
 optional (Some fs) = fs
 optional None = []
@@ -83,6 +87,7 @@ key (keys.Number n) = one (mark (Just (tok.Number n)))
 
 -- ---- operators
 
+-- the sign of an operator between two operands (ECMA-262, sections 13.7 to 13.13)
 abbrev pub binary_sign : BinaryOp → Punctuator
 binary_sign binary.Coalesce = p.QuestionQuestion
 binary_sign binary.Or = p.OrOr
@@ -99,20 +104,24 @@ binary_sign binary.Multiply = p.Star
 binary_sign binary.Divide = p.Slash
 binary_sign binary.Remainder = p.Percent
 
+-- the sign or the word of an operator before its operand (ECMA-262, section 13.5)
 abbrev pub unary_form : UnaryOp → Form
 unary_form unary.Not = just p.Not
 unary_form unary.Negate = just p.Minus
 unary_form unary.TypeOf = reserved r.TypeOf
 
+-- the sign of an operator that counts up or down: `++` or `--` (ECMA-262, section 13.4)
 abbrev pub update_sign : UpdateOp → Punctuator
 update_sign update.Increment = p.PlusPlus
 update_sign update.Decrement = p.MinusMinus
 
+-- the sign of an operator that writes: `=`, `+=` or `-=` (ECMA-262, section 13.15)
 abbrev pub assign_sign : AssignOp → Punctuator
 assign_sign assign.Set = p.Equal
 assign_sign assign.Add = p.PlusEqual
 assign_sign assign.Subtract = p.MinusEqual
 
+-- the word of a declaration: `let` or `const` (ECMA-262, section 14.3.1)
 abbrev pub declare_word : DeclareKind → Reserved
 declare_word declare.Let = r.Let
 declare_word declare.Const = r.Const
@@ -140,9 +149,11 @@ pub record WrittenPart : Type 0 where
   pub units : List ℕ
   pub value : List Form
 
+-- an expression whose chain has no binary operator, no call and no member access
 abbrev pub alone : List Form → Written
 alone fs = record { forms = fs; operators = 0; accesses = 0 }
 
+-- statements, one behind another (ECMA-262, section 14.2, StatementList)
 abbrev pub statements : List WrittenStmt → List Form
 statements ss = flat_map (λ s. s.forms) ss
 
@@ -150,6 +161,7 @@ statements ss = flat_map (λ s. s.forms) ss
 abbrev pub block : List WrittenStmt → List Form
 block ss = enclosed p.OpenBrace (statements ss) p.CloseBrace
 
+-- these between `(` and `)`
 abbrev pub parenthesized : List Form → List Form
 parenthesized fs = enclosed p.OpenParen fs p.CloseParen
 
@@ -157,6 +169,7 @@ parenthesized fs = enclosed p.OpenParen fs p.CloseParen
 abbrev pub parameters : List Name → List Form
 parameters ns = parenthesized (listed (map name_forms ns))
 
+-- what each of these expressions is written as
 abbrev pub values : List Written → List (List Form)
 values xs = map (λ x. x.forms) xs
 
@@ -170,9 +183,11 @@ accessed x fs = record { forms = x.forms ++ deeper x.accesses fs; operators = 0;
 abbrev pub member : Written → Name → Written
 member x n = accessed x (deeper 1 (just p.Dot ∷ any_name n ∷ []))
 
+-- an operand with `[key]` behind it
 abbrev pub index : Written → Written → Written
 index x k = accessed x (enclosed p.OpenBracket k.forms p.CloseBracket)
 
+-- an operand with arguments in brackets behind it (ECMA-262, section 13.3.8)
 abbrev pub call : Written → List Written → Written
 call x xs = accessed x (parenthesized (listed (values xs)))
 
@@ -188,10 +203,12 @@ joined o x y = record {
 abbrev pub template_mark : TemplatePart → List ℕ → Form
 template_mark k u = one (mark (Just (tok.Template k u)))
 
+-- a template behind the value that a `${` of it holds, with the parts and the last units that are left
 abbrev pub template_rest : List WrittenPart → List ℕ → List Form
 template_rest [] u = template_mark part.Tail u ∷ []
 template_rest (i ∷ is) u = template_mark part.Middle i.units ∷ (i.value ++ template_rest is u)
 
+-- a template: one token where it holds no value, else its head, its values and the parts behind them
 abbrev pub template : List WrittenPart → List ℕ → List Form
 template [] u = template_mark part.Whole u ∷ []
 template (i ∷ is) u = deeper 1 (template_mark part.Head i.units ∷ (i.value ++ template_rest is u))
@@ -200,6 +217,7 @@ template (i ∷ is) u = deeper 1 (template_mark part.Head i.units ∷ (i.value +
 abbrev pub bracketed_mark : Mark → Mark
 bracketed_mark m = record { want = m.want; unbroken = false; constructs = 1 }
 
+-- one parameter of an arrow: without brackets, or in brackets, perhaps with a comma behind it
 abbrev pub arrow_name : Name → Form
 arrow_name n =
     (name_mark n ∷ [])
@@ -207,14 +225,17 @@ arrow_name n =
     ∷ (bracketed_mark (sign p.OpenParen) ∷ bracketed_mark (name_mark n) ∷ bracketed_mark (sign p.Comma) ∷ bracketed_mark (sign p.CloseParen) ∷ [])
     ∷ []
 
+-- the parameters of an arrow in brackets; one alone may stand without them (ECMA-262, section 15.3)
 abbrev pub arrow_parameters : List Name → List Form
 arrow_parameters (n ∷ []) = arrow_name n ∷ []
 arrow_parameters ns = parameters ns
 
 -- the arrow and the body
+-- `=>`, with no line end before it (section 15.3, ArrowFunction)
 abbrev pub arrow_sign : Form
 arrow_sign = one (unbroken (sign p.Arrow))
 
+-- an arrow function, `async` or not: its parameters, then `=>` and the body
 abbrev pub arrow : Bool → List Name → List Form → List Form
 arrow is_async ns body = perhaps_async is_async (arrow_parameters ns) ++ body
 
@@ -222,49 +243,63 @@ arrow is_async ns body = perhaps_async is_async (arrow_parameters ns) ++ body
 abbrev pub function : List Form → WrittenFunction → List Form
 function named f = perhaps_async f.is_async (reserved r.Function ∷ (named ++ f.forms))
 
+-- what a function's name is written as: nothing where it has none
 abbrev pub option_name : Option Name → List Form
 option_name None = []
 option_name (Some n) = name n ∷ []
 
+-- `++` or `--` before its target, or behind it on the same line (ECMA-262, section 13.4)
 abbrev pub update_forms : UpdateSide → UpdateOp → Written → List Form
 update_forms side.Before o x = deeper 1 (just (update_sign o) ∷ x.forms)
 update_forms side.Behind o x = x.forms ++ one (unbroken (sign (update_sign o))) ∷ []
 
+-- `test ? yes : no`, where both values stand one construct deeper (ECMA-262, section 13.14)
 abbrev pub conditional : Written → Written → Written → List Form
 conditional test a b = test.forms ++ (deeper 1 (just p.Question ∷ a.forms) ++ deeper 1 (just p.Colon ∷ b.forms))
 
 -- ---- the layers of the tree: what each is written as, where its parts are so written
 
+-- an arrow's body whose parts are written already
 abbrev pub ArrowLayer : Type 0
 ArrowLayer = ArrowBody-F (List Form) Written (List Form) (List Form) WrittenStmt Written (List Form) (List Form) WrittenFunction WrittenPart
 
+-- an expression whose parts are written already
 abbrev pub ExprLayer : Type 0
 ExprLayer = Expr-F (List Form) Written (List Form) (List Form) WrittenStmt Written (List Form) (List Form) WrittenFunction WrittenPart
 
+-- the begin of a `for` whose parts are written already
 abbrev pub ForLayer : Type 0
 ForLayer = ForBegin-F (List Form) Written (List Form) (List Form) WrittenStmt Written (List Form) (List Form) WrittenFunction WrittenPart
 
+-- a member of an object whose parts are written already
 abbrev pub PropertyLayer : Type 0
 PropertyLayer = Property-F (List Form) Written (List Form) (List Form) WrittenStmt Written (List Form) (List Form) WrittenFunction WrittenPart
 
+-- a statement whose parts are written already
 abbrev pub StmtLayer : Type 0
 StmtLayer = Stmt-F (List Form) Written (List Form) (List Form) WrittenStmt Written (List Form) (List Form) WrittenFunction WrittenPart
 
+-- what can be written to, whose parts are written already
 abbrev pub TargetLayer : Type 0
 TargetLayer = Target-F (List Form) Written (List Form) (List Form) WrittenStmt Written (List Form) (List Form) WrittenFunction WrittenPart
 
+-- a `catch` whose block is written already
 abbrev pub CatchLayer : Type 0
 CatchLayer = Catch-F (List Form) Written (List Form) (List Form) WrittenStmt Written (List Form) (List Form) WrittenFunction WrittenPart
 
+-- a declaration whose value is written already
 abbrev pub DeclarationLayer : Type 0
 DeclarationLayer = Declaration-F (List Form) Written (List Form) (List Form) WrittenStmt Written (List Form) (List Form) WrittenFunction WrittenPart
 
+-- a function whose body is written already
 abbrev pub FunctionLayer : Type 0
 FunctionLayer = Function-F (List Form) Written (List Form) (List Form) WrittenStmt Written (List Form) (List Form) WrittenFunction WrittenPart
 
+-- a part of a template, and the value behind it, which is written already
 abbrev pub TemplateLayer : Type 0
 TemplateLayer = TemplateItem-F (List Form) Written (List Form) (List Form) WrittenStmt Written (List Form) (List Form) WrittenFunction WrittenPart
 
+-- what can be written to: a name, `object.name` or `object[key]`
 abbrev pub target_step : TargetLayer → Written
 target_step (Target-F.Variable n) = alone (name n ∷ [])
 target_step (Target-F.Field x n) = member x n
@@ -274,14 +309,17 @@ target_step (Target-F.Item x k) = index x k
 abbrev pub method : Key → WrittenFunction → List Form
 method k f = perhaps_async f.is_async (key k ∷ f.forms)
 
+-- a member of an object: `key: value`, a name alone, or a method
 abbrev pub property_step : PropertyLayer → List Form
 property_step (Property-F.Pair k x) = key k ∷ just p.Colon ∷ x.forms
 property_step (Property-F.Short n) = name n ∷ []
 property_step (Property-F.Method k f) = method k f
 
+-- an object: its members between braces, with a comma between each two (ECMA-262, section 13.2.5)
 abbrev pub object : List (List Form) → List Form
 object xs = enclosed p.OpenBrace (listed xs) p.CloseBrace
 
+-- a function behind its name: the parameters, then the statements in braces (ECMA-262, section 15.2)
 abbrev pub function_step : FunctionLayer → WrittenFunction
 function_step f = record { is_async = f.is_async; forms = parameters f.parameters ++ block f.body }
 
@@ -290,9 +328,11 @@ abbrev pub arrow_body_step : ArrowLayer → List Form
 arrow_body_step (ArrowBody-F.Statements ss) = arrow_sign ∷ block ss
 arrow_body_step (ArrowBody-F.Value x) = deeper 1 (arrow_sign ∷ x.forms)
 
+-- a part of a template as its units and what the value behind it is written as
 abbrev pub template_step : TemplateLayer → WrittenPart
 template_step i = record { units = i.units; value = i.value.forms }
 
+-- what an expression is written as (ECMA-262, sections 13.2 to 13.15)
 abbrev pub expr_step : ExprLayer → Written
 expr_step (Expr-F.Name n) = alone (name n ∷ [])
 expr_step (Expr-F.Number n) = alone (one (mark (Just (tok.Number n))) ∷ [])
@@ -320,6 +360,7 @@ expr_step (Expr-F.Index x k) = index x k
 
 -- ---- statements
 
+-- a statement that is no block
 abbrev pub other : List Form → WrittenStmt
 other fs = record { forms = fs; is_block = false }
 
@@ -327,6 +368,7 @@ other fs = record { forms = fs; is_block = false }
 abbrev pub body : WrittenStmt → List Form
 body s = cond s.is_block s.forms (deeper 1 s.forms)
 
+-- a declared name, and `=` and its value where it has one (ECMA-262, section 14.3.1, LexicalBinding)
 abbrev pub declaration_step : DeclarationLayer → List Form
 declaration_step d = name d.name ∷ initial d.value
   where
@@ -338,11 +380,13 @@ declaration_step d = name d.name ∷ initial d.value
 abbrev pub declared : DeclareKind → List (List Form) → List Form
 declared k ds = reserved (declare_word k) ∷ separated ds
 
+-- what a `for` begins with: nothing, declarations, or an expression
 abbrev pub for_step : ForLayer → List Form
 for_step ForBegin-F.Nothing = []
 for_step (ForBegin-F.Declarations k ds) = declared k ds
 for_step (ForBegin-F.Start x) = x.forms
 
+-- `catch`, the name in brackets where it has one, and the block (ECMA-262, section 14.15)
 abbrev pub catch_step : CatchLayer → List Form
 catch_step c = reserved r.Catch ∷ (named c.name ++ block c.body)
   where
@@ -350,14 +394,17 @@ catch_step c = reserved r.Catch ∷ (named c.name ++ block c.body)
     named None = []
     named (Some n) = parenthesized (name n ∷ [])
 
+-- what a value is written as that may be missing: nothing where it is
 abbrev pub option_value : Option Written → List Form
 option_value None = []
 option_value (Some x) = x.forms
 
+-- `else` and the statement behind it, or nothing
 abbrev pub option_else : Option WrittenStmt → List Form
 option_else None = []
 option_else (Some s) = reserved r.Else ∷ body s
 
+-- `finally` and its block, or nothing
 abbrev pub option_finally : Option (List WrittenStmt) → List Form
 option_finally None = []
 option_finally (Some ss) = reserved r.Finally ∷ block ss
@@ -370,9 +417,11 @@ for_head begin test update = begin ++ just p.Semicolon ∷ (option_value test ++
 abbrev pub of_word : Form
 of_word = one (mark (Just (tok.Name (111 ∷ 102 ∷ []))))
 
+-- what stands in the brackets of a `for` over values: `const name of value`
 abbrev pub for_of_head : DeclareKind → Name → Written → List Form
 for_of_head k n x = reserved (declare_word k) ∷ name n ∷ of_word ∷ x.forms
 
+-- what a statement is written as (ECMA-262, sections 14.2 to 14.15)
 abbrev pub stmt_step : StmtLayer → WrittenStmt
 stmt_step (Stmt-F.Declare k ds) = other (declared k ds ++ end ∷ [])
 stmt_step (Stmt-F.DeclareFunction n f) = other (function (name_forms n) f)
@@ -395,33 +444,43 @@ stmt_step (Stmt-F.Expr x) = other (x.forms ++ end ∷ [])
 abbrev pub StmtNode : Type 0
 StmtNode = Stmt-F ArrowBody Expr ForBegin Property Stmt Target Catch Declaration Function TemplateItem
 
+-- what an arrow's body is written as, the `=>` before it too
 abbrev pub of_arrow_body : ArrowBody → List Form
 of_arrow_body = fold-ArrowBody (List Form) Written (List Form) (List Form) WrittenStmt Written (List Form) (List Form) WrittenFunction WrittenPart arrow_body_step expr_step for_step property_step stmt_step target_step catch_step declaration_step function_step template_step
 
+-- what an expression is written as, with all its parts
 abbrev pub of_expr : Expr → Written
 of_expr = fold-Expr (List Form) Written (List Form) (List Form) WrittenStmt Written (List Form) (List Form) WrittenFunction WrittenPart arrow_body_step expr_step for_step property_step stmt_step target_step catch_step declaration_step function_step template_step
 
+-- what the begin of a `for` is written as, with all its parts
 abbrev pub of_for : ForBegin → List Form
 of_for = fold-ForBegin (List Form) Written (List Form) (List Form) WrittenStmt Written (List Form) (List Form) WrittenFunction WrittenPart arrow_body_step expr_step for_step property_step stmt_step target_step catch_step declaration_step function_step template_step
 
+-- what a member of an object is written as, with all its parts
 abbrev pub of_property : Property → List Form
 of_property = fold-Property (List Form) Written (List Form) (List Form) WrittenStmt Written (List Form) (List Form) WrittenFunction WrittenPart arrow_body_step expr_step for_step property_step stmt_step target_step catch_step declaration_step function_step template_step
 
+-- what a statement is written as, with all its parts
 abbrev pub of_stmt : Stmt → WrittenStmt
 of_stmt = fold-Stmt (List Form) Written (List Form) (List Form) WrittenStmt Written (List Form) (List Form) WrittenFunction WrittenPart arrow_body_step expr_step for_step property_step stmt_step target_step catch_step declaration_step function_step template_step
 
+-- what can be written to, as it is written with all its parts
 abbrev pub of_target : Target → Written
 of_target = fold-Target (List Form) Written (List Form) (List Form) WrittenStmt Written (List Form) (List Form) WrittenFunction WrittenPart arrow_body_step expr_step for_step property_step stmt_step target_step catch_step declaration_step function_step template_step
 
+-- what a `catch` is written as, with all its parts
 abbrev pub of_catch : Catch → List Form
 of_catch = fold-Catch (List Form) Written (List Form) (List Form) WrittenStmt Written (List Form) (List Form) WrittenFunction WrittenPart arrow_body_step expr_step for_step property_step stmt_step target_step catch_step declaration_step function_step template_step
 
+-- what a declaration is written as, with its value
 abbrev pub of_declaration : Declaration → List Form
 of_declaration = fold-Declaration (List Form) Written (List Form) (List Form) WrittenStmt Written (List Form) (List Form) WrittenFunction WrittenPart arrow_body_step expr_step for_step property_step stmt_step target_step catch_step declaration_step function_step template_step
 
+-- what a function is written as behind its name, with all its parts
 abbrev pub of_function : Function → WrittenFunction
 of_function = fold-Function (List Form) Written (List Form) (List Form) WrittenStmt Written (List Form) (List Form) WrittenFunction WrittenPart arrow_body_step expr_step for_step property_step stmt_step target_step catch_step declaration_step function_step template_step
 
+-- a part of a template, and what the value behind it is written as
 abbrev pub of_template : TemplateItem → WrittenPart
 of_template = fold-TemplateItem (List Form) Written (List Form) (List Form) WrittenStmt Written (List Form) (List Form) WrittenFunction WrittenPart arrow_body_step expr_step for_step property_step stmt_step target_step catch_step declaration_step function_step template_step
 
@@ -429,6 +488,7 @@ of_template = fold-TemplateItem (List Form) Written (List Form) (List Form) Writ
 abbrev pub of_export : List Property → List Form
 of_export xs = reserved r.Export ∷ reserved r.Default ∷ object (map of_property xs)
 
+-- the statement is `;` alone (ECMA-262, section 14.4)
 abbrev pub is_empty : Stmt → Bool
 is_empty s = empty (out-Stmt s)
   where
@@ -441,6 +501,7 @@ abbrev pub export_end : List Item → Form
 export_end (item.Stmt s ∷ is) = cond (is_empty s) (just p.Semicolon) (maybe (sign p.Semicolon))
 export_end _ = maybe (sign p.Semicolon)
 
+-- what a script's items are written as, one behind another (ECMA-262, section 16.2)
 abbrev pub of_tree : List Item → List Form
 of_tree [] = []
 of_tree (item.Stmt s ∷ is) = (of_stmt s).forms ++ of_tree is

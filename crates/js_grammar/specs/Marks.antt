@@ -32,16 +32,19 @@ pub record Mark : Type 0 where
   pub unbroken : Bool
   pub constructs : ℕ
 
+-- no line end stands before the token, where none may
 abbrev pub IsUnbroken : Bool → Token → Type 0
 IsUnbroken true t = t.after_line_end ≡ false
 IsUnbroken false t = Unit {0}
 
+-- the piece is the token that is asked for, or the automatic end
 abbrev pub IsWanted : Want → Bool → Piece → Type 0
 IsWanted (Just k) u (Read t) = (t.kind ≡ k) × IsUnbroken u t
 IsWanted (At q k) u (Read t) = (t.kind ≡ k) × (t.place ≡ q) × IsUnbroken u t
 IsWanted Auto u Ended = Unit {0}
 IsWanted _ u _ = ⊥
 
+-- the piece is what the mark asks for, with so many constructs open at it
 pub record IsOf (m : Mark) (s : Seen) : Type 0 where
   pub wanted : IsWanted m.want m.unbroken s.piece
   pub constructs : s.constructs ≡ m.constructs
@@ -55,6 +58,7 @@ AreOf (m ∷ ms) ss = (s : Seen) × (rest : List Seen) × (ss ≡ s ∷ rest) ×
 abbrev pub Form : Type 0
 Form = List (List Mark)
 
+-- the pieces are one of the lists that the form allows
 abbrev pub IsOneOf : Form → List Seen → Type 0
 IsOneOf [] ss = ⊥
 IsOneOf (ms ∷ others) ss = AreOf ms ss ⊎ IsOneOf others ss
@@ -66,12 +70,15 @@ Matches (f ∷ fs) ss = (a : List Seen) × (b : List Seen) × (ss ≡ a ++ b) ×
 
 -- ---- marks and forms
 
+-- this piece, with no construct open, and perhaps behind a line end
 abbrev pub mark : Want → Mark
 mark w = record { want = w; unbroken = false; constructs = 0 }
 
+-- this punctuator
 abbrev pub sign : Punctuator → Mark
 sign x = mark (Just (tok.Punctuator x))
 
+-- this reserved word
 abbrev pub word : Reserved → Mark
 word x = mark (Just (tok.Reserved x))
 
@@ -79,9 +86,11 @@ word x = mark (Just (tok.Reserved x))
 abbrev pub unbroken : Mark → Mark
 unbroken m = record { want = m.want; unbroken = true; constructs = m.constructs }
 
+-- the form that only this mark meets
 abbrev pub one : Mark → Form
 one m = (m ∷ []) ∷ []
 
+-- the form that only this punctuator meets
 abbrev pub just : Punctuator → Form
 just x = one (sign x)
 
@@ -97,6 +106,7 @@ maybe m = (m ∷ []) ∷ [] ∷ []
 abbrev pub deeper_mark : ℕ → Mark → Mark
 deeper_mark n m = record { want = m.want; unbroken = m.unbroken; constructs = n + m.constructs }
 
+-- the same forms, with more constructs open at each piece
 abbrev pub deeper : ℕ → List Form → List Form
 deeper n fs = map (map (map (deeper_mark n))) fs
 
@@ -105,6 +115,7 @@ abbrev pub first_unbroken : List Mark → List Mark
 first_unbroken [] = []
 first_unbroken (m ∷ ms) = unbroken m ∷ ms
 
+-- no line end stands before the first of these
 abbrev pub on_one_line : List Form → List Form
 on_one_line [] = []
 on_one_line (f ∷ fs) = map first_unbroken f ∷ fs
@@ -118,6 +129,7 @@ abbrev pub more : List (List Form) → List Form
 more [] = []
 more (fs ∷ rest) = just p.Comma ∷ (fs ++ more rest)
 
+-- a list with a comma between each two, and none behind the last
 abbrev pub separated : List (List Form) → List Form
 separated [] = []
 separated (fs ∷ rest) = fs ++ more rest

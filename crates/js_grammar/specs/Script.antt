@@ -61,6 +61,7 @@ pub record IsScript (tree : List Item) (ts : List Token) (open_at : List ℕ) : 
 abbrev pub most_open : ℕ
 most_open = 128
 
+-- at no token are more constructs open than may be
 abbrev pub AreShallow : List ℕ → Type 0
 AreShallow [] = Unit {0}
 AreShallow (n ∷ ns) = (n ≤ most_open) × AreShallow ns

@@ -35,12 +35,15 @@ strength o = known (sign_strength (binary_sign o))
     known (Some n) = n
     known None = 0
 
+-- the level of an expression with a prefix operator outermost (ECMA-262, section 13.5)
 abbrev pub prefix_level : ℕ
 prefix_level = 7
 
+-- the level of an expression with `++` or `--` behind it (ECMA-262, section 13.4)
 abbrev pub postfix_level : ℕ
 postfix_level = 8
 
+-- the level of an expression with no operator outermost (ECMA-262, sections 13.2 and 13.3)
 abbrev pub operand_level : ℕ
 operand_level = 9
 
@@ -57,6 +60,7 @@ pub data Logic : Type 0 where
   AndOr : Logic
   NoLogic : Logic
 
+-- an expression: it has a text, and this is its level, what it begins with, and its outermost logic
 pub record Shape : Type 0 where
   pub fits : Bool
   pub level : ℕ
@@ -74,24 +78,30 @@ pub record StmtShape : Type 0 where
   pub is_body : Bool
   pub takes_else : Bool
 
+-- each of these holds
 abbrev pub all_true : List Bool → Bool
 all_true [] = true
 all_true (b ∷ bs) = b && all_true bs
 
+-- each of these expressions has a text
 abbrev pub all_fit : List Shape → Bool
 all_fit [] = true
 all_fit (x ∷ xs) = x.fits && all_fit xs
 
+-- each of these statements has a text
 abbrev pub all_statements_fit : List StmtShape → Bool
 all_statements_fit [] = true
 all_statements_fit (x ∷ xs) = x.fits && all_statements_fit xs
 
+-- the expression has a text, and binds as tightly as this level
 abbrev pub at_least : ℕ → Shape → Bool
 at_least n x = x.fits && nat_le n x.level
 
+-- the expression has a text, and binds more tightly than this level
 abbrev pub above : ℕ → Shape → Bool
 above n x = x.fits && nat_lt n x.level
 
+-- an expression with none of `??`, `||` and `&&` outermost
 abbrev pub shaped : Bool → ℕ → First → Shape
 shaped b n f = record { fits = b; level = n; first = f; logic = NoLogic }
 
@@ -103,14 +113,17 @@ primary b = shaped b operand_level OtherFirst
 abbrev pub accessing : Shape → Bool → Shape
 accessing x b = shaped (at_least operand_level x && b) operand_level x.first
 
+-- `??` stands outermost
 abbrev pub is_coalescing : Logic → Bool
 is_coalescing Coalescing = true
 is_coalescing _ = false
 
+-- `||` or `&&` stands outermost
 abbrev pub is_and_or : Logic → Bool
 is_and_or AndOr = true
 is_and_or _ = false
 
+-- which operator of those that are not mixed this one is
 abbrev pub logic : BinaryOp → Logic
 logic binary.Coalesce = Coalescing
 logic binary.Or = AndOr
@@ -132,60 +145,76 @@ joining o x y = record {
   logic = logic o;
 }
 
+-- `++` or `--` on this side of its target (ECMA-262, section 13.4)
 abbrev pub updating : UpdateSide → Shape → Shape
 updating side.Before x = shaped x.fits prefix_level OtherFirst
 updating side.Behind x = shaped x.fits postfix_level x.first
 
+-- the expression begins with `{`
 abbrev pub is_brace : First → Bool
 is_brace Brace = true
 is_brace _ = false
 
+-- the expression begins neither with `{` nor with the word of a function
 abbrev pub is_other : First → Bool
 is_other OtherFirst = true
 is_other _ = false
 
 -- ---- the layers of the tree
 
+-- an arrow's body, of whose parts it is known whether they have a text
 abbrev pub ArrowLayer : Type 0
 ArrowLayer = ArrowBody-F Bool Shape Bool Bool StmtShape Shape Bool DeclaredShape Bool Bool
 
+-- an expression, of whose parts it is known whether they have a text
 abbrev pub ExprLayer : Type 0
 ExprLayer = Expr-F Bool Shape Bool Bool StmtShape Shape Bool DeclaredShape Bool Bool
 
+-- the begin of a `for`, of whose parts it is known whether they have a text
 abbrev pub ForLayer : Type 0
 ForLayer = ForBegin-F Bool Shape Bool Bool StmtShape Shape Bool DeclaredShape Bool Bool
 
+-- a member of an object, of whose parts it is known whether they have a text
 abbrev pub PropertyLayer : Type 0
 PropertyLayer = Property-F Bool Shape Bool Bool StmtShape Shape Bool DeclaredShape Bool Bool
 
+-- a statement, of whose parts it is known whether they have a text
 abbrev pub StmtLayer : Type 0
 StmtLayer = Stmt-F Bool Shape Bool Bool StmtShape Shape Bool DeclaredShape Bool Bool
 
+-- what can be written to, of whose parts it is known whether they have a text
 abbrev pub TargetLayer : Type 0
 TargetLayer = Target-F Bool Shape Bool Bool StmtShape Shape Bool DeclaredShape Bool Bool
 
+-- a `catch`, of whose block it is known whether it has a text
 abbrev pub CatchLayer : Type 0
 CatchLayer = Catch-F Bool Shape Bool Bool StmtShape Shape Bool DeclaredShape Bool Bool
 
+-- a declaration, of whose value it is known whether it has a text
 abbrev pub DeclarationLayer : Type 0
 DeclarationLayer = Declaration-F Bool Shape Bool Bool StmtShape Shape Bool DeclaredShape Bool Bool
 
+-- a function, of whose body it is known whether it has a text
 abbrev pub FunctionLayer : Type 0
 FunctionLayer = Function-F Bool Shape Bool Bool StmtShape Shape Bool DeclaredShape Bool Bool
 
+-- a part of a template, of whose value it is known whether it has a text
 abbrev pub TemplateLayer : Type 0
 TemplateLayer = TemplateItem-F Bool Shape Bool Bool StmtShape Shape Bool DeclaredShape Bool Bool
 
+-- what can be written to: a name, or a member of an operand (ECMA-262, section 13.15.1)
 abbrev pub target_step : TargetLayer → Shape
 target_step (Target-F.Variable n) = primary true
 target_step (Target-F.Field x n) = accessing x true
 target_step (Target-F.Item x k) = accessing x k.fits
 
+-- a member of an object has a text where its value or its function has
 abbrev pub property_step : PropertyLayer → Bool
 property_step (Property-F.Pair k x) = x.fits
 property_step (Property-F.Short n) = true
 property_step (Property-F.Method k f) = f
 
+-- a function has a text where each of its statements has
 abbrev pub function_step : FunctionLayer → Bool
 function_step f = all_statements_fit f.body
 
@@ -194,9 +223,11 @@ abbrev pub arrow_body_step : ArrowLayer → Bool
 arrow_body_step (ArrowBody-F.Statements ss) = all_statements_fit ss
 arrow_body_step (ArrowBody-F.Value x) = x.fits && not (is_brace x.first)
 
+-- a part of a template has a text where the value behind it has
 abbrev pub template_step : TemplateLayer → Bool
 template_step i = i.value.fits
 
+-- whether an expression has a text, and of which shape (ECMA-262, sections 13.2 to 13.15)
 abbrev pub expr_step : ExprLayer → Shape
 expr_step (Expr-F.Name n) = primary true
 expr_step (Expr-F.Number n) = primary true
@@ -224,21 +255,26 @@ expr_step (Expr-F.Index x k) = accessing x k.fits
 
 -- ---- statements
 
+-- a value that may be missing has a text where it is there
 abbrev pub value_fits : Option Shape → Bool
 value_fits None = true
 value_fits (Some x) = x.fits
 
+-- there is a value
 abbrev pub has_value : Option Shape → Bool
 has_value None = false
 has_value (Some x) = true
 
+-- a declaration: whether it has a text, and whether it has a value
 abbrev pub declaration_step : DeclarationLayer → DeclaredShape
 declaration_step d = record { fits = value_fits d.value; has_value = has_value d.value }
 
+-- a declaration has a text where its value has; a `const` needs one (ECMA-262, section 14.3.1)
 abbrev pub declared_fits : DeclareKind → DeclaredShape → Bool
 declared_fits declare.Let d = d.fits
 declared_fits declare.Const d = d.fits && d.has_value
 
+-- each of these declarations has a text
 abbrev pub all_declared_fit : DeclareKind → List DeclaredShape → Bool
 all_declared_fit k [] = true
 all_declared_fit k (d ∷ ds) = declared_fits k d && all_declared_fit k ds
@@ -248,20 +284,25 @@ abbrev pub declarations_fit : DeclareKind → List DeclaredShape → Bool
 declarations_fit k [] = false
 declarations_fit k ds = all_declared_fit k ds
 
+-- the begin of a `for` has a text: nothing, one declaration at least, or an expression
 abbrev pub for_step : ForLayer → Bool
 for_step ForBegin-F.Nothing = true
 for_step (ForBegin-F.Declarations k ds) = declarations_fit k ds
 for_step (ForBegin-F.Start x) = x.fits
 
+-- a `catch` has a text where each statement of its block has
 abbrev pub catch_step : CatchLayer → Bool
 catch_step c = all_statements_fit c.body
 
+-- a declaration: it stands in a list of statements, but not as the body of another (ECMA-262, section 14)
 abbrev pub item_only : Bool → StmtShape
 item_only b = record { fits = b; is_body = false; takes_else = false }
 
+-- a statement that may be a body, and takes no `else` behind it
 abbrev pub plain : Bool → StmtShape
 plain b = record { fits = b; is_body = true; takes_else = false }
 
+-- the statement has a text, and may stand as the body of another
 abbrev pub body_fits : StmtShape → Bool
 body_fits s = s.fits && s.is_body
 
@@ -278,10 +319,12 @@ branching test a (Some b) = record {
   takes_else = b.takes_else;
 }
 
+-- a `catch` that may be missing has a text where it is there
 abbrev pub catch_fits : Option Bool → Bool
 catch_fits None = true
 catch_fits (Some b) = b
 
+-- a `finally` that may be missing has a text where it is there
 abbrev pub finally_fits : Option (List StmtShape) → Bool
 finally_fits None = true
 finally_fits (Some ss) = all_statements_fit ss
@@ -291,6 +334,7 @@ abbrev pub handles : Option Bool → Option (List StmtShape) → Bool
 handles None None = false
 handles _ _ = true
 
+-- whether a statement has a text, and of which shape (ECMA-262, sections 14.2 to 14.15)
 abbrev pub stmt_step : StmtLayer → StmtShape
 stmt_step (Stmt-F.Declare k ds) = item_only (declarations_fit k ds)
 stmt_step (Stmt-F.DeclareFunction n f) = item_only f
@@ -310,40 +354,52 @@ stmt_step (Stmt-F.Expr x) = plain (x.fits && is_other x.first)
 
 -- ---- whole trees
 
+-- whether an arrow's body has a text, with all its parts
 abbrev pub of_arrow_body : ArrowBody → Bool
 of_arrow_body = fold-ArrowBody Bool Shape Bool Bool StmtShape Shape Bool DeclaredShape Bool Bool arrow_body_step expr_step for_step property_step stmt_step target_step catch_step declaration_step function_step template_step
 
+-- the shape of an expression, with all its parts
 abbrev pub of_expr : Expr → Shape
 of_expr = fold-Expr Bool Shape Bool Bool StmtShape Shape Bool DeclaredShape Bool Bool arrow_body_step expr_step for_step property_step stmt_step target_step catch_step declaration_step function_step template_step
 
+-- whether the begin of a `for` has a text, with all its parts
 abbrev pub of_for : ForBegin → Bool
 of_for = fold-ForBegin Bool Shape Bool Bool StmtShape Shape Bool DeclaredShape Bool Bool arrow_body_step expr_step for_step property_step stmt_step target_step catch_step declaration_step function_step template_step
 
+-- whether a member of an object has a text, with all its parts
 abbrev pub of_property : Property → Bool
 of_property = fold-Property Bool Shape Bool Bool StmtShape Shape Bool DeclaredShape Bool Bool arrow_body_step expr_step for_step property_step stmt_step target_step catch_step declaration_step function_step template_step
 
+-- the shape of a statement, with all its parts
 abbrev pub of_stmt : Stmt → StmtShape
 of_stmt = fold-Stmt Bool Shape Bool Bool StmtShape Shape Bool DeclaredShape Bool Bool arrow_body_step expr_step for_step property_step stmt_step target_step catch_step declaration_step function_step template_step
 
+-- the shape of what can be written to, with all its parts
 abbrev pub of_target : Target → Shape
 of_target = fold-Target Bool Shape Bool Bool StmtShape Shape Bool DeclaredShape Bool Bool arrow_body_step expr_step for_step property_step stmt_step target_step catch_step declaration_step function_step template_step
 
+-- whether a `catch` has a text, with all its parts
 abbrev pub of_catch : Catch → Bool
 of_catch = fold-Catch Bool Shape Bool Bool StmtShape Shape Bool DeclaredShape Bool Bool arrow_body_step expr_step for_step property_step stmt_step target_step catch_step declaration_step function_step template_step
 
+-- the shape of a declaration, with its value
 abbrev pub of_declaration : Declaration → DeclaredShape
 of_declaration = fold-Declaration Bool Shape Bool Bool StmtShape Shape Bool DeclaredShape Bool Bool arrow_body_step expr_step for_step property_step stmt_step target_step catch_step declaration_step function_step template_step
 
+-- whether a function has a text, with all its parts
 abbrev pub of_function : Function → Bool
 of_function = fold-Function Bool Shape Bool Bool StmtShape Shape Bool DeclaredShape Bool Bool arrow_body_step expr_step for_step property_step stmt_step target_step catch_step declaration_step function_step template_step
 
+-- whether a part of a template has a text, with the value behind it
 abbrev pub of_template : TemplateItem → Bool
 of_template = fold-TemplateItem Bool Shape Bool Bool StmtShape Shape Bool DeclaredShape Bool Bool arrow_body_step expr_step for_step property_step stmt_step target_step catch_step declaration_step function_step template_step
 
+-- an item of a script has a text: a statement, or the object that is exported
 abbrev pub item_fits : Item → Bool
 item_fits (item.Stmt s) = (of_stmt s).fits
 item_fits (item.Export xs) = all_true (map of_property xs)
 
+-- how many items are `export default`
 abbrev pub exports : List Item → ℕ
 exports [] = 0
 exports (item.Stmt s ∷ is) = exports is

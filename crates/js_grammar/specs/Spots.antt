@@ -20,6 +20,7 @@ pub record IsBegin (ts : List Token) : Type 0 where
   pub open_at : List ℕ
   pub script : IsScript tree (ts ++ rest) open_at
 
+-- a token of this kind, on the line of the one before it or behind a line end
 abbrev pub token : Bool → TokenKind → Token
 token line k = record { place = 0; after_line_end = line; kind = k }
 
@@ -30,15 +31,19 @@ Allows ts line (k ∷ ks) = Allows (ts ++ token line k ∷ []) false ks
 
 -- ---- samples of tokens, that stand at some spots alone
 
+-- a token that only a statement begins with: `while`
 abbrev pub a_statement : TokenKind
 a_statement = tok.Reserved r.While
 
+-- a token that an expression begins with, and no name is: `this`
 abbrev pub an_expression : TokenKind
 an_expression = tok.Reserved r.This
 
+-- a token that is a name: `a`
 abbrev pub a_name : TokenKind
 a_name = tok.Name (97 ∷ [])
 
+-- a token that is a string
 abbrev pub a_text : TokenKind
 a_text = tok.Text []
 
@@ -46,15 +51,19 @@ a_text = tok.Text []
 abbrev pub a_word : TokenKind
 a_word = tok.Reserved r.Default
 
+-- the token `,`
 abbrev pub comma : TokenKind
 comma = tok.Punctuator p.Comma
 
+-- the token `:`
 abbrev pub colon : TokenKind
 colon = tok.Punctuator p.Colon
 
+-- the token `)`
 abbrev pub close_paren : TokenKind
 close_paren = tok.Punctuator p.CloseParen
 
+-- the token `=`
 abbrev pub equal : TokenKind
 equal = tok.Punctuator p.Equal
 
@@ -109,6 +118,7 @@ pub data Asked : Type 0 where
   -- the token anywhere
   Anywhere : Asked
 
+-- there is a token, and a line end stands before it
 abbrev pub follows_line_end : Option Token → Bool
 follows_line_end (Some t) = t.after_line_end
 follows_line_end None = false
@@ -123,12 +133,14 @@ TellsNext ts m x =
     (StandsAt spot.StatementBegin (follows_line_end (slice_get ts m)) (take m ts) × (word_of ts m spot.StatementBegin ≡ Some x) × (x ≡ w.Label))
     ⊎ (PairsNext (take m ts) × (word_of ts m spot.Key ≡ Some x))
 
+-- what is asked has this word for token n
 abbrev pub TellsWord : Asked → List Token → ℕ → Word → Type 0
 TellsWord Before ts n x = (m : ℕ) × (n ≡ m + 1) × TellsNext ts m x
 TellsWord OnLine ts n x = Tells ts n false x
 TellsWord BehindEnd ts n x = (follows_line_end (slice_get ts n) ≡ true) × Tells ts n true x
 TellsWord Anywhere ts n x = (word_of ts n spot.OperandEnd ≡ Some x) × (x ≡ w.Comma → ⊥)
 
+-- the first of those asked that has a word has this one
 abbrev pub FirstTold : List Asked → List Token → ℕ → Word → Type 0
 FirstTold [] ts n x = ⊥
 FirstTold (a ∷ asked) ts n x = TellsWord a ts n x ⊎ (((y : Word) → TellsWord a ts n y → ⊥) × FirstTold asked ts n x)

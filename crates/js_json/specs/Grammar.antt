@@ -6,6 +6,7 @@ use Rattle.js_json.specs.Units.{is_blank, is_hex, code_of, is_escape, escaped}
 use Rattle.js_json.specs.Lists.{Every, Passes, Then, Many, Either, One}
 use Rattle.js_json.specs.Number.{IsSafeNumber}
 
+-- any number of blanks (ECMA-404, section 4)
 abbrev pub Blanks : List ℕ → Type 0
 Blanks us = Every (Passes is_blank) us
 
@@ -20,11 +21,13 @@ pub data Letter : Type 0 where
   -- `\u` and four digits
   Code : ℕ → ℕ → ℕ → ℕ → Letter
 
+-- the units that a letter is written with
 abbrev pub letter_units : Letter → List ℕ
 letter_units (Raw u) = u ∷ []
 letter_units (Escape u) = 92 ∷ u ∷ []
 letter_units (Code a b c d) = 92 ∷ 117 ∷ a ∷ b ∷ c ∷ d ∷ []
 
+-- the unit that a letter spells
 abbrev pub letter_value : Letter → ℕ
 letter_value (Raw u) = u
 letter_value (Escape u) = escaped u
@@ -34,6 +37,7 @@ letter_value (Code a b c d) = code_of a b c d
 abbrev pub is_raw : ℕ → Bool
 is_raw u = not (u == 34 || (u == 92 || nat_lt u 32))
 
+-- a letter that a text may have: each digit of a code is hexadecimal (ECMA-404, section 9)
 abbrev pub IsLetter : Letter → Type 0
 IsLetter (Raw u) = is_raw u ≡ true
 IsLetter (Escape u) = is_escape u ≡ true
@@ -46,13 +50,16 @@ pub record IsTextOf (Spells : List ℕ → Type 0) (us : List ℕ) : Type 0 wher
   pub spells : Spells (map letter_value letters)
   pub text : us ≡ 34 ∷ (flat_map letter_units letters ++ 34 ∷ [])
 
+-- the text may spell any name
 abbrev pub Anything : List ℕ → Type 0
 Anything name = Unit {0}
 
+-- the name is no refused one
 abbrev pub IsAllowed : List ℕ → Type 0
 IsAllowed name = IsRefusedName name → ⊥
 
 -- a text
+-- whatever it spells (ECMA-404, section 9)
 abbrev pub IsText : List ℕ → Type 0
 IsText us = IsTextOf Anything us
 

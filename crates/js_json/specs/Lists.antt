@@ -1,10 +1,12 @@
 -- Lists of which a text is made.
 use Rattle.std.specs.Prelude.{◌≡◌, ℕ, Bool, true, List, [], ◌∷◌, ◌++◌, ◌⊎◌}
 
+-- each item of the list has the property
 abbrev pub Every : {A : Type 0} → (A → Type 0) → List A → Type 0
 Every P [] = Unit {0}
 Every P (x ∷ xs) = P x × Every P xs
 
+-- the unit is of the class
 abbrev pub Passes : (ℕ → Bool) → ℕ → Type 0
 Passes f u = f u ≡ true
 
@@ -16,6 +18,7 @@ pub record Then (P Q : List ℕ → Type 0) (us : List ℕ) : Type 0 where
   pub first : P front
   pub second : Q back
 
+-- the lists, one behind another
 abbrev pub joined : List (List ℕ) → List ℕ
 joined [] = []
 joined (us ∷ uss) = us ++ joined uss
@@ -26,6 +29,7 @@ pub record Many (P : List ℕ → Type 0) (us : List ℕ) : Type 0 where
   pub every : Every P parts
   pub is : us ≡ joined parts
 
+-- of the one kind or of the other
 abbrev pub Either : (P Q : List ℕ → Type 0) → List ℕ → Type 0
 Either P Q us = P us ⊎ Q us
 

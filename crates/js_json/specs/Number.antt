@@ -23,29 +23,35 @@ pub record Number : Type 0 where
 abbrev pub IsWhole : List ℕ → Type 0
 IsWhole us = (us ≡ 48 ∷ []) ⊎ ((d : ℕ) × (ds : List ℕ) × (us ≡ d ∷ ds) × (is_digit d ≡ true) × ((d == 48) ≡ false) × Every (Passes is_digit) ds)
 
+-- the parts of a number are those that the grammar allows (ECMA-404, section 8)
 pub record IsNumber (n : Number) : Type 0 where
   pub whole : IsWhole n.whole
   pub fraction : Every (Passes is_digit) n.fraction
   pub mark : is_mark n.mark ≡ true
   pub exponent : Every (Passes is_digit) n.exponent
 
+-- `-` where the number is below zero, else nothing
 abbrev pub minus_units : Bool → List ℕ
 minus_units true = 45 ∷ []
 minus_units false = []
 
+-- the point and the digits behind it, or nothing where there are none
 abbrev pub fraction_units : List ℕ → List ℕ
 fraction_units [] = []
 fraction_units (d ∷ ds) = 46 ∷ d ∷ ds
 
+-- the sign before the exponent's digits, or nothing
 abbrev pub sign_units : Sign → List ℕ
 sign_units Bare = []
 sign_units Plus = 43 ∷ []
 sign_units Minus = 45 ∷ []
 
+-- the mark, the sign and the digits of the exponent, or nothing where there are no digits
 abbrev pub exponent_units : ℕ → Sign → List ℕ → List ℕ
 exponent_units mark sign [] = []
 exponent_units mark sign (d ∷ ds) = mark ∷ (sign_units sign ++ d ∷ ds)
 
+-- the units that a number is written with
 abbrev pub number_units : Number → List ℕ
 number_units n = (minus_units n.minus ++ (n.whole ++ fraction_units n.fraction)) ++ exponent_units n.mark n.sign n.exponent
 
@@ -54,6 +60,7 @@ abbrev pub decimal_from : ℕ → List ℕ → ℕ
 decimal_from n [] = n
 decimal_from n (d ∷ ds) = decimal_from (10 * n + (d - 48)) ds
 
+-- the number that decimal digits spell
 abbrev pub decimal : List ℕ → ℕ
 decimal ds = decimal_from 0 ds
 
@@ -66,6 +73,7 @@ is_down _ = false
 abbrev pub up : Number → ℕ
 up n = cond (is_down n.sign) 0 (decimal n.exponent)
 
+-- the size of the exponent where it is below zero, and 0 where it is not
 abbrev pub down : Number → ℕ
 down n = cond (is_down n.sign) (decimal n.exponent) 0
 

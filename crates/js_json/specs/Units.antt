@@ -1,6 +1,7 @@
 -- The units of a JSON text (ECMA-404, RFC 8259), by their UTF-16 codes.
 use Rattle.std.specs.Prelude.{ℕ, ◌+◌, ◌-◌, ◌*◌, Bool, cond, ◌&&◌, ◌||◌, ◌==◌, nat_le}
 
+-- the unit is one of those from `low` to `high`, both among them
 abbrev pub is_between : ℕ → ℕ → ℕ → Bool
 is_between low high u = nat_le low u && nat_le u high
 

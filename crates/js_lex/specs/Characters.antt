@@ -8,6 +8,7 @@ use Rattle.js_lex.specs.Units.{Text, is_line_end, is_digit, is_hex, value}
 use Rattle.js_lex.specs.Values.{code_units, escaped}
 use Rattle.js_lex.specs.Lists.{Passes, Every, In, NotNext, is}
 
+-- one character of a string or a template, as it is written
 pub data Character : Type 0 where
   -- the unit itself
   Plain : ℕ → Character
@@ -26,6 +27,7 @@ pub data Character : Type 0 where
   -- `\` and a line end (LineContinuation)
   Continued : Text → Character
 
+-- the units that a character is written with
 abbrev pub character_units : Character → Text
 character_units (Plain u) = u ∷ []
 character_units (Line e) = e
@@ -76,6 +78,7 @@ StandsIn q (Four a b c d) z = Every (Passes is_hex) (a ∷ b ∷ c ∷ d ∷ [])
 StandsIn q (CodePoint ds) z = HexDigits ds × (value 16 0 ds ≤ 1114111)
 StandsIn q (Continued e) z = LineEnds e z
 
+-- the units that characters are written with, one behind another
 abbrev pub characters_units : List Character → Text
 characters_units cs = flat_map character_units cs
 
@@ -84,6 +87,7 @@ abbrev pub AreCharacters : Quote → List Character → Text → Type 0
 AreCharacters q [] z = Unit {0}
 AreCharacters q (c ∷ cs) z = StandsIn q c (characters_units cs ++ z) × AreCharacters q cs z
 
+-- the quote that a literal begins and ends with: `'`, `"` or a backtick
 abbrev pub mark : Quote → ℕ
 mark quote.Single = 39
 mark quote.Double = 34
@@ -94,5 +98,6 @@ abbrev pub ending_text : Quote → Ending → Text
 ending_text q ending.Closed = mark q ∷ []
 ending_text q ending.Hole = 36 ∷ 123 ∷ []
 
+-- SV and TV: the units that characters stand for, one behind another
 abbrev pub characters_value : List Character → List ℕ
 characters_value cs = flat_map character_value cs

@@ -12,6 +12,7 @@ use Rattle.js_lex.specs.Characters.{Character, characters_units, AreCharacters, 
 
 -- ---- comments (section 12.4)
 
+-- the unit may stand in a comment of one line: it is no line end
 abbrev pub is_inner : ℕ → Bool
 is_inner u = not (is_line_end u)
 
@@ -22,6 +23,7 @@ NoEnd (u ∷ z) = ((u == 42) ≡ true → NotNext (is 47) z) × NoEnd z
 
 -- ---- elements
 
+-- an element of a text, as it is written: white space, a line end, a comment or a token
 pub data Element : Type 0 where
   -- section 12.2
   White : ℕ → Element
@@ -41,14 +43,17 @@ pub data Element : Type 0 where
   -- section 12.8
   Sign : Text → Punctuator → Element
 
+-- the quote of a string: double or single
 abbrev pub string_quote : Bool → Quote
 string_quote true = quote.Double
 string_quote false = quote.Single
 
+-- what a part of a template begins with: a backtick or `}`
 abbrev pub part_begin : Bool → ℕ
 part_begin true = 96
 part_begin false = 125
 
+-- the units that an element is written with
 abbrev pub units : Element → Text
 units (White u) = u ∷ []
 units (LineEnd u) = u ∷ []

@@ -28,15 +28,18 @@ more_units (front.Gap m ends) = m
 more_units (front.Token k m) = m
 more_units (front.Bad why) = 0
 
+-- it has no more units behind the first than these
 abbrev pub Fits : Front → ℕ → Type 0
 Fits f n = more_units f ≤ n
 
 -- ---- names (ECMA-262, section 12.7)
 
+-- the reserved word that a text is, if the table has it
 abbrev pub find_word : List (Text × Reserved) → Text → Option Reserved
 find_word [] z = None
 find_word (r ∷ rs) z = cond (bytes_eq z r.0) (Some r.1) (find_word rs z)
 
+-- the token of a text: the reserved word that it is, or a name
 abbrev pub word_or_name : Text → Option Reserved → TokenKind
 word_or_name z (Some r) = tok.Reserved r
 word_or_name z None = tok.Name z
@@ -45,9 +48,11 @@ word_or_name z None = tok.Name z
 abbrev pub name_kind : Text → TokenKind
 name_kind z = word_or_name z (find_word reserved_words z)
 
+-- a name of which the first unit and the n behind it are of ASCII
 abbrev pub is_ascii : ℕ → Text → ℕ → Bool
 is_ascii u z n = is_part u && (n == past class.Part z 0)
 
+-- the token of a name or a reserved word that has n units behind the first
 abbrev pub word : ℕ → Text → ℕ → Front
 word u z n = front.Token (name_kind (u ∷ take n z)) n
 
@@ -61,6 +66,7 @@ name u z = let n = past class.Name z 0 in cond (is_ascii u z n) (word u z n) (fr
 abbrev pub ended : Text → ℕ → Front → Front
 ended z at f = cond (is_name (slice_index z at)) (front.Bad bad.Syntax) f
 
+-- a number as a token, where it has a value that can be read; else it is left out
 abbrev pub sized : ℕ → Option ℕ → Front
 sized n None = front.Bad bad.Number
 sized n (Some v) = front.Token (tok.Number v) n
@@ -74,12 +80,14 @@ abbrev pub radix : ℕ → Option Class
 radix u =
     cond (u == 120 || u == 88) (Some class.Hex) (cond (u == 111 || u == 79) (Some class.Octal) (cond (u == 98 || u == 66) (Some class.Binary) None))
 
+-- the base of the digits of a class (section 12.9.3)
 abbrev pub base : Class → ℕ
 base class.Hex = 16
 base class.Octal = 8
 base class.Binary = 2
 base _ = 10
 
+-- the place behind a point and its digits, where a point stands
 abbrev pub past_fraction : Text → ℕ → ℕ
 past_fraction z at = cond (slice_index z at == 46) (past_some class.Digit z (at + 1)) at
 
@@ -107,9 +115,11 @@ abbrev pub literal : ℕ → Text → ℕ → ℕ → Front
 literal u z whole end =
     cond (end == whole) (integer z whole (safe_value 10 (digit_of u) (take whole z))) (ended z end (front.Bad bad.Number))
 
+-- a decimal literal, with its fraction and its exponent where it has them
 abbrev pub digits : ℕ → Text → Front
 digits u z = let whole = past_digits class.Digit z 0 in literal u z whole (past_exponent z (past_fraction z whole))
 
+-- a decimal literal; one with a `0` before its other digits is none
 abbrev pub decimal : ℕ → Text → Front
 decimal u z = cond (is_legacy u z) (front.Bad bad.Syntax) (digits u z)
 
@@ -117,10 +127,12 @@ decimal u z = cond (is_legacy u z) (front.Bad bad.Syntax) (digits u z)
 abbrev pub in_base : Class → Text → Front
 in_base c z = let end = past_some c z 1 in cond (end == 1) (front.Bad bad.Syntax) (integer z end (safe_value (base c) 0 (take (end - 1) (drop 1 z))))
 
+-- a literal by the base that its second unit tells, where its first is `0`; else a decimal one
 abbrev pub number_by : ℕ → Text → Option Class → Front
 number_by u z None = decimal u z
 number_by u z (Some c) = cond (u == 48) (in_base c z) (decimal u z)
 
+-- a number that begins with a digit
 abbrev pub number : ℕ → Text → Front
 number u z = number_by u z (radix (slice_index z 0))
 
@@ -130,22 +142,27 @@ point z = ended z (past_exponent z (past_some class.Digit z 0)) (front.Bad bad.N
 
 -- ---- strings and templates (sections 12.9.4 and 12.9.6)
 
+-- the token of a string, where its text has an end
 abbrev pub string_of : Option Body → Front
 string_of None = front.Bad bad.Syntax
 string_of (Some b) = front.Token (tok.Text b.value) b.units
 
+-- a string behind its quote (section 12.9.4)
 abbrev pub string : Quote → Text → Front
 string q z = string_of (body_of q 0 z)
 
+-- the token of a part of a template, where its text has an end
 abbrev pub template_of : Bool → Option Body → Front
 template_of begins_ None = front.Bad bad.Syntax
 template_of begins_ (Some b) = front.Token (tok.Template (part_of begins_ b.ending) b.value) b.units
 
+-- a part of a template, behind its backtick or its `}` (section 12.9.6)
 abbrev pub template : Bool → Text → Front
 template begins_ z = template_of begins_ (body_of quote.Template 0 z)
 
 -- ---- comments (section 12.4)
 
+-- a place so many units further on, where there is one
 abbrev pub later : ℕ → Option ℕ → Option ℕ
 later n None = None
 later n (Some m) = Some (n + m)
@@ -159,6 +176,7 @@ comment (u ∷ z) = cond (u == 42 && slice_index z 0 == 47) (Some 2) (later 1 (c
 abbrev pub has_line_end : Text → Bool
 has_line_end z = nat_lt (past class.Line z 0) (length z)
 
+-- a comment of so many units as a gap; one without an end is an error of syntax
 abbrev pub gap_of : Text → Option ℕ → Front
 gap_of z None = front.Bad bad.Syntax
 gap_of z (Some n) = front.Gap (1 + n) (has_line_end (take (1 + n) z))

@@ -16,6 +16,7 @@ use Rattle.js_lex.specs.Numbers.{Number, number_value}
 use Rattle.js_lex.specs.Characters.{characters_value}
 use Rattle.js_lex.specs.Elements.{Element, White, LineEnd, LineComment, BlockComment, Word, Numeric, String, Part, Sign, units, Stands, IsLongest, BeginsNone}
 
+-- what an element is read as: nothing, a token, or a refusal
 pub data Reading : Type 0 where
   -- no token; `true` where a line end stands in it
   Gap : Bool → Reading
@@ -26,6 +27,7 @@ pub data Reading : Type 0 where
 abbrev pub IsKind : Text → TokenKind → Type 0
 IsKind w k = ((r : Reserved) × In (w, r) reserved_words × (k ≡ tok.Reserved r)) ⊎ (((r : Reserved) → In (w, r) reserved_words → ⊥) × (k ≡ tok.Name w))
 
+-- each unit of the name is of ASCII
 abbrev pub IsAscii : Text → Type 0
 IsAscii w = Every (Passes is_part) w
 
@@ -61,12 +63,15 @@ pub record Piece : Type 0 where
   pub element : Element
   pub reading : Reading
 
+-- the units that a piece is written with
 abbrev pub piece_units : Piece → Text
 piece_units p = units p.element
 
+-- the text that the pieces are, one behind another
 abbrev pub text_of : List Piece → Text
 text_of ps = flat_map piece_units ps
 
+-- the reading is no refusal
 abbrev pub IsRead : Reading → Type 0
 IsRead (Refused why) = ⊥
 IsRead _ = Unit {0}
@@ -76,6 +81,7 @@ abbrev pub braces_behind : Reading → List Brace → List Brace
 braces_behind (Token k) bs = braces k bs
 braces_behind _ bs = bs
 
+-- the open braces behind these pieces, the innermost first
 abbrev pub open_braces : List Brace → List Piece → List Brace
 open_braces bs [] = bs
 open_braces bs (p ∷ ps) = open_braces (braces_behind p.reading bs) ps
@@ -95,10 +101,12 @@ Stops h tail None = tail ≡ []
 Stops h tail (Some why) =
     ((1 ≤ length tail) × BeginsNone h tail × (why ≡ bad.Syntax)) ⊎ ((e : Element) × (rest : Text) × (tail ≡ units e ++ rest) × IsPiece h e rest (Refused why))
 
+-- the last token: `End`, or why no more can be read from a place on
 abbrev pub last_kind : ℕ → Option Unread → TokenKind
 last_kind n None = tok.End
 last_kind n (Some why) = tok.Bad (fault n why)
 
+-- the token that a piece gives at its place, if it gives one
 abbrev pub piece_tokens : ℕ → Bool → Reading → List Placed
 piece_tokens n l (Token k) = token n l k ∷ []
 piece_tokens n l _ = []

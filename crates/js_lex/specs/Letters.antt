@@ -15,6 +15,7 @@ use Rattle.js_lex.specs.Units.{Text, is_line_end, is_digit, is_hex, digit_of}
 use Rattle.js_lex.specs.Runs.{past, numeral}
 use Rattle.js_lex.specs.Values.{escaped}
 
+-- the units that a letter means: none, one, or a pair of surrogates
 abbrev pub meant : Meaning → List ℕ
 meant m.Nothing = []
 meant (m.One u) = u ∷ []
@@ -43,6 +44,7 @@ four_digits z =
     let d = slice_index z 3 in
     cond (nat_le 4 (length z) && ((is_hex a && is_hex b) && (is_hex c && is_hex d))) (one 5 (4096 * digit_of a + 256 * digit_of b + (16 * digit_of c + digit_of d))) None
 
+-- a letter that means this code point, where there is one
 abbrev pub of_code : ℕ → Option ℕ → Option Letter
 of_code n None = None
 of_code n (Some c) = Some (record { more = n; meaning = encoded c })
@@ -52,6 +54,7 @@ abbrev pub code_point : Text → Option Letter
 code_point z = let n = past class.Hex z 0 in cond (n == 0 || not (slice_index z n == 125)) None (of_code (n + 3) (numeral 1114111 16 0 (take n z)))
 
 -- UnicodeEscapeSequence
+-- `u` and four digits, or `u{`, the digits of a code point and `}` (section 12.9.4)
 abbrev pub unicode_escape : Text → Option Letter
 unicode_escape z = cond (slice_index z 0 == 123) (code_point (drop 1 z)) (four_digits z)
 
@@ -73,6 +76,7 @@ escape_of u z =
     cond (u == 120) (hex_escape z)
     (cond (u == 117) (unicode_escape z) (cond (is_digit u) (digit_escape u z) (cond (is_line_end u) (line_continuation u z) (one 1 (escaped u)))))
 
+-- the letter of an escape, behind its `\`
 abbrev pub escape : Text → Option Letter
 escape [] = None
 escape (u ∷ z) = escape_of u z
@@ -84,6 +88,7 @@ abbrev pub raw : Quote → ℕ → Text → Option Letter
 raw quote.Template u z = cond (u == 13) (one (line_units u z) 10) (one 0 u)
 raw _ u z = cond (u == 10 || u == 13) None (one 0 u)
 
+-- a letter at the front: an escape, or a unit for itself
 abbrev pub letter_of : Quote → ℕ → Text → Option Letter
 letter_of q u z = cond (u == 92) (escape z) (raw q u z)
 
@@ -93,14 +98,17 @@ ends quote.Single u z = cond (u == 39) (Some ending.Closed) None
 ends quote.Double u z = cond (u == 34) (Some ending.Closed) None
 ends quote.Template u z = cond (u == 96) (Some ending.Closed) (cond (u == 36 && slice_index z 0 == 123) (Some ending.Hole) None)
 
+-- how many units an ending has: one for a quote, two for `${`
 abbrev pub ending_units : Ending → ℕ
 ending_units ending.Closed = 1
 ending_units ending.Hole = 2
 
+-- what comes next is this letter; without one the literal is broken
 abbrev pub read : Option Letter → Next
 read None = next.Broken
 read (Some l) = next.Letter l
 
+-- what comes next is the end of the literal, or where there is none a letter
 abbrev pub end_or : Option Ending → Option Letter → Next
 end_or None l = read l
 end_or (Some e) l = next.End e
@@ -117,10 +125,12 @@ next_of q u z = end_or (ends q u z) (letter_of q u z)
 
 -- ---- the letters one after another, up to the end
 
+-- the text behind a letter, with what the letter means and its units before it
 abbrev pub after : List ℕ → ℕ → Option Body → Option Body
 after w n None = None
 after w n (Some b) = Some (record { value = w ++ b.value; units = n + b.units; ending = b.ending })
 
+-- what comes next, and the text behind it where it is a letter
 abbrev pub joined : Next → (ℕ → Option Body) → Option Body
 joined next.Broken f = None
 joined (next.End e) f = Some (record { value = []; units = ending_units e; ending = e })

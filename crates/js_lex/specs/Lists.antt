@@ -2,13 +2,16 @@
 use Rattle.std.specs.Prelude.{◌≡◌, ℕ, Bool, true, false, ◌||◌, ◌==◌, List, [], ◌∷◌, ◌⊎◌}
 use Rattle.js_lex.specs.Units.{Text}
 
+-- the unit is of the class
 abbrev pub Passes : (ℕ → Bool) → ℕ → Type 0
 Passes f u = f u ≡ true
 
+-- each item of the list has the property
 abbrev pub Every : {A : Type 0} → (A → Type 0) → List A → Type 0
 Every P [] = Unit {0}
 Every P (x ∷ xs) = P x × Every P xs
 
+-- the item is among those of the list
 abbrev pub In : {A : Type 0} → A → List A → Type 0
 In x [] = ⊥
 In x (y ∷ ys) = (y ≡ x) ⊎ In x ys
@@ -18,6 +21,7 @@ abbrev pub NotNext : (ℕ → Bool) → Text → Type 0
 NotNext f [] = Unit {0}
 NotNext f (u ∷ z) = f u ≡ false
 
+-- the unit is this one
 abbrev pub is : ℕ → ℕ → Bool
 is n u = u == n
 

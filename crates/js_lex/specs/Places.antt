@@ -17,6 +17,7 @@ abbrev pub is_hole : Option Brace → Bool
 is_hole (Some brace.Hole) = true
 is_hole _ = false
 
+-- the text goes on in the `${` of a template
 abbrev pub in_hole : List Brace → Bool
 in_hole bs = is_hole (slice_get bs 0)
 
@@ -28,10 +29,12 @@ braces (tok.Template part.Head w) bs = brace.Hole ∷ bs
 braces (tok.Template part.Tail w) bs = drop 1 bs
 braces _ bs = bs
 
+-- the fault at a place: no syntax of ECMA-262, or a number or a name that is left out
 abbrev pub fault : ℕ → Unread → ScriptFault
 fault n bad.Syntax = record { kind = kind.Syntax; place = n; word = [] }
 fault n bad.Number = record { kind = kind.LeftOut; place = n; word = codes "number" }
 fault n bad.Identifier = record { kind = kind.LeftOut; place = n; word = codes "identifier" }
 
+-- a token of this kind at a place, behind a line end or not
 abbrev pub token : ℕ → Bool → TokenKind → Token
 token n l k = record { place = n; after_line_end = l; kind = k }

@@ -5,6 +5,7 @@ use Rattle.js_lex.specs.declared.units.Class.{Class}
 use Rattle.js_lex.specs.declared.units.Class.TheVariants as class
 use Rattle.js_lex.specs.Units.{Text, is_line_end, is_digit, is_hex, is_name, is_part, is_between, value}
 
+-- the unit is of the class
 abbrev pub is_in : Class → ℕ → Bool
 is_in class.Name u = is_name u
 is_in class.Part u = is_part u
@@ -35,6 +36,7 @@ past_digits c z at = at + digits_len (is_in c) (drop at z)
 abbrev pub past_some : Class → Text → ℕ → ℕ
 past_some c z at = cond (is_in c (slice_index z at)) (past_digits c z at) at
 
+-- the number, where it is no greater than `max`
 abbrev pub at_most : ℕ → ℕ → Option ℕ
 at_most max n = cond (nat_le n max) (Some n) None
 

@@ -5,6 +5,7 @@ use Rattle.std.specs.Prelude.{ℕ, ◌+◌, ◌-◌, ◌*◌, Bool, cond, not, �
 abbrev pub Text : Type 0
 Text = List ℕ
 
+-- the unit is one of those from `low` to `high`, both among them
 abbrev pub is_between : ℕ → ℕ → ℕ → Bool
 is_between low high u = nat_le low u && nat_le u high
 
@@ -21,6 +22,7 @@ abbrev pub is_digit : ℕ → Bool
 is_digit u = is_between 48 57 u
 
 -- HexDigit
+-- a decimal digit, or one of the letters A to F, small or large
 abbrev pub is_hex : ℕ → Bool
 is_hex u = is_digit u || (is_between 65 70 u || is_between 97 102 u)
 

@@ -2,6 +2,7 @@
 use Rattle.std.specs.Prelude.{◌≡◌, ℕ, Bool, false, ◌||◌, List, [], ◌∷◌, ◌⊎◌, codes}
 use Rattle.std.specs.Str.{bytes_eq}
 
+-- what scripts may not use as the name of a property, each in letters
 abbrev pub refused_names : List (List ℕ)
 refused_names =
     codes "__proto__" ∷ codes "constructor" ∷ codes "hasOwnProperty" ∷ codes "isPrototypeOf" ∷ codes "propertyIsEnumerable"

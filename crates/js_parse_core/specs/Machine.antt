@@ -16,6 +16,7 @@ use Rattle.js_parse_core.specs.Outer.{Step, refuse, plus, constructs}
 use Rattle.js_parse_core.specs.Statements.{on_statement, on_declared_name, on_name_declared, on_opening, on_for_head, on_for_test, on_for_update, after_then, on_jump, on_return, on_throw, on_try, after_try, on_catch, on_catch_name, on_catch_close, on_catch_body, after_catch, on_finally, on_export_word, on_export_object, after_export}
 use Rattle.js_parse_core.specs.Values.{after_value, after_whole}
 
+-- a token between the parts of a `try` (ECMA-262, section 14.15); at a place not named so far it is refused
 abbrev pub step_in_try : Outer → At → Token → Step
 step_in_try o at.TryOpen t = on_try o t.kind
 step_in_try o (at.AfterTry ss) t = after_try o ss t.kind
@@ -27,6 +28,7 @@ step_in_try o (at.AfterCatch ss c) t = after_catch o ss c t
 step_in_try o (at.FinallyOpen ss c) t = on_finally o ss c t.kind
 step_in_try o a t = refuse
 
+-- a token behind an `if`'s first body, a jump's word or `export`; at other places as `step_in_try`
 abbrev pub step_in_statement : Bool → Outer → At → Token → Step
 step_in_statement auto o (at.AfterThen test s) t = after_then o test s t
 step_in_statement auto o (at.Jump s) t = on_jump auto o s t
@@ -37,6 +39,7 @@ step_in_statement auto o at.ExportObject t = on_export_object o t.kind
 step_in_statement auto o at.AfterExport t = after_export o t
 step_in_statement auto o a t = step_in_try o a t
 
+-- a token within declarations or the head of a statement; at other places as `step_in_statement`
 abbrev pub step_in_head : Bool → Outer → At → Token → Step
 step_in_head auto o (at.DeclaredName d) t = on_declared_name o d t.place t.kind
 step_in_head auto o (at.NameDeclared d n) t = on_name_declared auto o d n t
@@ -46,6 +49,7 @@ step_in_head auto o (at.ForTest b) t = on_for_test o b t
 step_in_head auto o (at.ForUpdate b test) t = on_for_update o b test t
 step_in_head auto o a t = step_in_statement auto o a t
 
+-- a token within the head of a function; at other places as `step_in_head`
 abbrev pub step_in_function : Bool → Outer → At → Token → Step
 step_in_function auto o (at.FunctionName d a) t = on_function_name o d a t.place t.kind
 step_in_function auto o (at.ParametersOpen h) t = on_parameters_open o h t.kind
@@ -54,6 +58,7 @@ step_in_function auto o (at.ParameterRead h ns n) t = on_parameter_read o h ns n
 step_in_function auto o (at.BodyOpen h ns) t = on_body_open o h ns t.kind
 step_in_function auto o a t = step_in_head auto o a t
 
+-- a token within an object; at other places as `step_in_function`
 abbrev pub step_in_object : Bool → Outer → At → Token → Step
 step_in_object auto o (at.Key xs) t = on_key o xs t.place t.kind
 step_in_object auto o (at.NameKey xs n) t = on_name_key o xs n t.kind
@@ -63,6 +68,7 @@ step_in_object auto o (at.AsyncMethod xs k) t = on_async_method o xs k t.kind
 step_in_object auto o (at.PropertyEnd xs) t = on_property_end o xs t.kind
 step_in_object auto o a t = step_in_function auto o a t
 
+-- a token behind `async` or `new`, within an arrow's parameters or before its body; else as `step_in_object`
 abbrev pub step_in_arrow : ℕ → Bool → Outer → At → Token → Step
 step_in_arrow most auto o (at.Async n) t = after_async auto o n t
 step_in_arrow most auto o (at.CoverOpen c ns) t = on_cover_open o c ns t
@@ -74,6 +80,7 @@ step_in_arrow most auto o at.NewName t = on_new o t.place t.kind
 step_in_arrow most auto o (at.NewOpen n) t = on_new_open o n t.kind
 step_in_arrow most auto o a t = step_in_object auto o a t
 
+-- what a token does at a place, while it is not asked how many constructs it opens
 abbrev pub step_in : ℕ → Bool → Outer → At → Token → Step
 step_in most auto o at.Statement t = on_statement o t
 step_in most auto o at.Begin t = begin o t
@@ -85,6 +92,7 @@ step_in most auto o (at.NextArgument c xs) t = on_argument o c xs t
 step_in most auto o (at.NextElement xs) t = on_element o xs t
 step_in most auto o a t = step_in_arrow most auto o a t
 
+-- the constructs that arguments stand in: the calls and accesses before them, and their own
 abbrev pub callee_constructs : Callee → ℕ
 callee_constructs (callee.Value x n) = plus n 1
 callee_constructs (callee.New n) = 1
@@ -112,15 +120,19 @@ more_constructs (at.CatchName ss) = 1
 more_constructs (at.CatchClose ss n) = 1
 more_constructs _ = 0
 
+-- the state has no more than `most` constructs open
 abbrev pub is_shallow : ℕ → State → Bool
 is_shallow most s = nat_le (plus (constructs s.outer) (more_constructs s.at)) most
 
+-- a step is refused for its nesting where it leaves more than `most` constructs open
 abbrev pub if_shallow : ℕ → Step → Step
 if_shallow most (Ok n) = cond (is_shallow most n) (Ok n) (Err refusal.Nesting)
 if_shallow most (Err k) = Err k
 
+-- what a token does in a state, where at most `most` constructs may be open
 abbrev pub step : ℕ → Bool → State → Token → Step
 step most auto s t = if_shallow most (step_in most auto s.outer s.at t)
 
+-- before the first token: no items, nothing open, and a statement may begin
 abbrev pub start : State
 start = record { outer = record { items = []; exported = false; frames = [] }; at = at.Statement }

@@ -13,6 +13,7 @@ wanted (Just k) = k ∷ []
 wanted (At q k) = k ∷ []
 wanted Auto = []
 
+-- the tokens that these marks ask for, in order
 abbrev pub marked : List Mark → List TokenKind
 marked [] = []
 marked (m ∷ ms) = wanted m.want ++ marked ms
@@ -23,6 +24,7 @@ abbrev pub first_of : Form → List TokenKind
 first_of [] = []
 first_of (ms ∷ others) = marked ms
 
+-- the tokens of these forms, in order, each form by its first choice
 abbrev pub plain : List Form → List TokenKind
 plain [] = []
 plain (f ∷ fs) = first_of f ++ plain fs

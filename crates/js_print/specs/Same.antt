@@ -24,13 +24,16 @@ use Rattle.js_grammar.specs.Script.{IsScript}
 
 -- ---- each node with place 0 for its own
 
+-- the name with place 0
 abbrev pub unplaced_name : Name → Name
 unplaced_name n = record { place = 0; units = n.units }
 
+-- the key with place 0, where it is a name
 abbrev pub unplaced_key : Key → Key
 unplaced_key (keys.Name n) = keys.Name (unplaced_name n)
 unplaced_key k = k
 
+-- the node of an expression, with place 0 for its names and its word
 abbrev pub expr_node : Expr-F ArrowBody Expr ForBegin Property Stmt Target Catch Declaration Function TemplateItem → Expr-F ArrowBody Expr ForBegin Property Stmt Target Catch Declaration Function TemplateItem
 expr_node (Expr-F.Name n) = Expr-F.Name (unplaced_name n)
 expr_node (Expr-F.Function n f) = Expr-F.Function (option_map unplaced_name n) f
@@ -40,17 +43,21 @@ expr_node (Expr-F.New n xs) = Expr-F.New (unplaced_name n) xs
 expr_node (Expr-F.Member x n) = Expr-F.Member x (unplaced_name n)
 expr_node y = y
 
+-- an expression with place 0 in its node, whose parts have none already
 abbrev pub expr_step : Expr-F ArrowBody Expr ForBegin Property Stmt Target Catch Declaration Function TemplateItem → Expr
 expr_step y = roll-Expr (expr_node y)
 
+-- the node of a member of an object, with place 0 for its name
 abbrev pub property_node : Property-F ArrowBody Expr ForBegin Property Stmt Target Catch Declaration Function TemplateItem → Property-F ArrowBody Expr ForBegin Property Stmt Target Catch Declaration Function TemplateItem
 property_node (Property-F.Pair k x) = Property-F.Pair (unplaced_key k) x
 property_node (Property-F.Short n) = Property-F.Short (unplaced_name n)
 property_node (Property-F.Method k f) = Property-F.Method (unplaced_key k) f
 
+-- a member of an object with place 0 in its node, whose parts have none already
 abbrev pub property_step : Property-F ArrowBody Expr ForBegin Property Stmt Target Catch Declaration Function TemplateItem → Property
 property_step y = roll-Property (property_node y)
 
+-- the node of a statement, with place 0 for its name and its word
 abbrev pub stmt_node : Stmt-F ArrowBody Expr ForBegin Property Stmt Target Catch Declaration Function TemplateItem → Stmt-F ArrowBody Expr ForBegin Property Stmt Target Catch Declaration Function TemplateItem
 stmt_node (Stmt-F.DeclareFunction n f) = Stmt-F.DeclareFunction (unplaced_name n) f
 stmt_node (Stmt-F.ForOf k n x s) = Stmt-F.ForOf k (unplaced_name n) x s
@@ -59,62 +66,80 @@ stmt_node (Stmt-F.Continue q) = Stmt-F.Continue 0
 stmt_node (Stmt-F.Return q x) = Stmt-F.Return 0 x
 stmt_node y = y
 
+-- a statement with place 0 in its node, whose parts have none already
 abbrev pub stmt_step : Stmt-F ArrowBody Expr ForBegin Property Stmt Target Catch Declaration Function TemplateItem → Stmt
 stmt_step y = roll-Stmt (stmt_node y)
 
+-- the node of what can be written to, with place 0 for its name
 abbrev pub target_node : Target-F ArrowBody Expr ForBegin Property Stmt Target Catch Declaration Function TemplateItem → Target-F ArrowBody Expr ForBegin Property Stmt Target Catch Declaration Function TemplateItem
 target_node (Target-F.Variable n) = Target-F.Variable (unplaced_name n)
 target_node (Target-F.Field x n) = Target-F.Field x (unplaced_name n)
 target_node (Target-F.Item x k) = Target-F.Item x k
 
+-- what can be written to, with place 0 in its node, whose parts have none already
 abbrev pub target_step : Target-F ArrowBody Expr ForBegin Property Stmt Target Catch Declaration Function TemplateItem → Target
 target_step y = roll-Target (target_node y)
 
+-- a `catch` with place 0 for its name, whose parts have none already
 abbrev pub catch_step : Catch-F ArrowBody Expr ForBegin Property Stmt Target Catch Declaration Function TemplateItem → Catch
 catch_step c = roll-Catch (record { name = option_map unplaced_name c.name; body = c.body })
 
+-- a declaration with place 0 for its name, whose parts have none already
 abbrev pub declaration_step : Declaration-F ArrowBody Expr ForBegin Property Stmt Target Catch Declaration Function TemplateItem → Declaration
 declaration_step d = roll-Declaration (record { name = unplaced_name d.name; value = d.value })
 
+-- a function with place 0 for its parameters, whose parts have none already
 abbrev pub function_step : Function-F ArrowBody Expr ForBegin Property Stmt Target Catch Declaration Function TemplateItem → Function
 function_step f = roll-Function (record { is_async = f.is_async; parameters = map unplaced_name f.parameters; body = f.body })
 
 -- ---- whole trees
 
+-- an arrow's body with place 0 everywhere
 abbrev pub of_arrow_body : ArrowBody → ArrowBody
 of_arrow_body = fold-ArrowBody ArrowBody Expr ForBegin Property Stmt Target Catch Declaration Function TemplateItem roll-ArrowBody expr_step roll-ForBegin property_step stmt_step target_step catch_step declaration_step function_step roll-TemplateItem
 
+-- an expression with place 0 everywhere
 abbrev pub of_expr : Expr → Expr
 of_expr = fold-Expr ArrowBody Expr ForBegin Property Stmt Target Catch Declaration Function TemplateItem roll-ArrowBody expr_step roll-ForBegin property_step stmt_step target_step catch_step declaration_step function_step roll-TemplateItem
 
+-- what a `for` begins with, with place 0 everywhere
 abbrev pub of_for : ForBegin → ForBegin
 of_for = fold-ForBegin ArrowBody Expr ForBegin Property Stmt Target Catch Declaration Function TemplateItem roll-ArrowBody expr_step roll-ForBegin property_step stmt_step target_step catch_step declaration_step function_step roll-TemplateItem
 
+-- a member of an object with place 0 everywhere
 abbrev pub of_property : Property → Property
 of_property = fold-Property ArrowBody Expr ForBegin Property Stmt Target Catch Declaration Function TemplateItem roll-ArrowBody expr_step roll-ForBegin property_step stmt_step target_step catch_step declaration_step function_step roll-TemplateItem
 
+-- a statement with place 0 everywhere
 abbrev pub of_stmt : Stmt → Stmt
 of_stmt = fold-Stmt ArrowBody Expr ForBegin Property Stmt Target Catch Declaration Function TemplateItem roll-ArrowBody expr_step roll-ForBegin property_step stmt_step target_step catch_step declaration_step function_step roll-TemplateItem
 
+-- what can be written to, with place 0 everywhere
 abbrev pub of_target : Target → Target
 of_target = fold-Target ArrowBody Expr ForBegin Property Stmt Target Catch Declaration Function TemplateItem roll-ArrowBody expr_step roll-ForBegin property_step stmt_step target_step catch_step declaration_step function_step roll-TemplateItem
 
+-- a `catch` with place 0 everywhere
 abbrev pub of_catch : Catch → Catch
 of_catch = fold-Catch ArrowBody Expr ForBegin Property Stmt Target Catch Declaration Function TemplateItem roll-ArrowBody expr_step roll-ForBegin property_step stmt_step target_step catch_step declaration_step function_step roll-TemplateItem
 
+-- a declaration with place 0 everywhere
 abbrev pub of_declaration : Declaration → Declaration
 of_declaration = fold-Declaration ArrowBody Expr ForBegin Property Stmt Target Catch Declaration Function TemplateItem roll-ArrowBody expr_step roll-ForBegin property_step stmt_step target_step catch_step declaration_step function_step roll-TemplateItem
 
+-- a function with place 0 everywhere
 abbrev pub of_function : Function → Function
 of_function = fold-Function ArrowBody Expr ForBegin Property Stmt Target Catch Declaration Function TemplateItem roll-ArrowBody expr_step roll-ForBegin property_step stmt_step target_step catch_step declaration_step function_step roll-TemplateItem
 
+-- a part of a template, and the value behind it with place 0 everywhere
 abbrev pub of_template : TemplateItem → TemplateItem
 of_template = fold-TemplateItem ArrowBody Expr ForBegin Property Stmt Target Catch Declaration Function TemplateItem roll-ArrowBody expr_step roll-ForBegin property_step stmt_step target_step catch_step declaration_step function_step roll-TemplateItem
 
+-- an item of a script with place 0 everywhere
 abbrev pub unplaced_item : Item → Item
 unplaced_item (item.Stmt s) = item.Stmt (of_stmt s)
 unplaced_item (item.Export xs) = item.Export (map of_property xs)
 
+-- a script with place 0 everywhere
 abbrev pub unplaced : List Item → List Item
 unplaced is = map unplaced_item is
 

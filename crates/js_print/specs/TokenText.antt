@@ -128,6 +128,7 @@ is_escaped quote u = (u == quote || u == 92) || ((u == 10 || u == 13) || (quote 
 abbrev pub escape_letter : ℕ → ℕ
 escape_letter u = cond (u == 10) 110 (cond (u == 13) 114 u)
 
+-- a unit between two such quotes: as it is, or as an escape
 abbrev pub unit_text : ℕ → ℕ → Text
 unit_text quote u = cond (is_escaped quote u) (92 ∷ escape_letter u ∷ []) (u ∷ [])
 
@@ -142,6 +143,7 @@ part_begin part.Head = codes "`"
 part_begin part.Middle = codes "}"
 part_begin part.Tail = codes "}"
 
+-- what a part of a template ends with: a backtick, or `${`
 abbrev pub part_end : TemplatePart → Text
 part_end part.Whole = codes "`"
 part_end part.Head = codes "${"
@@ -162,5 +164,6 @@ token_text _ = []
 abbrev pub spaced : TokenKind → Text
 spaced k = token_text k ++ 32 ∷ []
 
+-- the text of these tokens, one behind another
 abbrev pub texts : List TokenKind → Text
 texts ks = flat_map spaced ks

@@ -15,6 +15,7 @@ use Rattle.js_print.specs.TokenText.{texts}
 use Rattle.js_print.specs.Printed.{plain}
 use Rattle.js_tree.specs.Weight as weight
 
+-- the name of a `catch` in brackets, or nothing (ECMA-262, section 14.15)
 abbrev pub caught : Option Name → List Form
 caught None = []
 caught (Some n) = parenthesized (name n ∷ [])
@@ -53,12 +54,14 @@ piece_forms (piece.Else s) = option_else (option_map of_stmt s.now)
 piece_forms (piece.Catch c) = optional (option_map of_catch c.now)
 piece_forms (piece.Finally f) = option_finally (option_map (map of_stmt) f.now)
 
+-- the tokens of these pieces, in order
 abbrev pub kinds : List Piece → List TokenKind
 kinds [] = []
 kinds (p ∷ ps) = plain (piece_forms p) ++ kinds ps
 
 -- ---- what pieces weigh
 
+-- the weight of a piece that is still to write
 abbrev pub piece_weight : Piece → ℕ
 piece_weight (piece.Async a) = 2
 piece_weight (piece.Key k) = 2

@@ -29,12 +29,15 @@ pub data Mark : Type 0 where
   Unless : EarlyFault → Mark
   Faulty : EarlyFault → Mark
 
+-- what a piece shows, in the order of the text
 abbrev pub Marks : Type 0
 Marks = List Mark
 
+-- a fault of this kind at a place
 abbrev pub fault : EarlyKind → ℕ → EarlyFault
 fault kind place = record { kind = kind; place = place }
 
+-- the mark of a word that is a fault at its place, unless something around it allows it
 abbrev pub word : EarlyKind → ℕ → Mark
 word kind place = Unless (fault kind place)
 
@@ -53,6 +56,7 @@ scope_from names (Declares n ∷ ms) = if stands n.units names then Faulty (faul
 scope_from names (Unless f ∷ ms) = Unless f ∷ scope_from names ms
 scope_from names (Faulty f ∷ ms) = Faulty f ∷ scope_from names ms
 
+-- what is seen of these marks from outside of a scope that has no names before
 abbrev pub scope : Marks → Marks
 scope ms = scope_from [] ms
 
@@ -63,11 +67,13 @@ loop_allows DoubleName = false
 loop_allows ReturnOutside = false
 loop_allows AwaitOutside = false
 
+-- what is seen of a mark from outside of a loop
 abbrev pub through_loop : Mark → Marks
 through_loop (Unless f) = if loop_allows f.kind then [] else Unless f ∷ []
 through_loop (Declares n) = Declares n ∷ []
 through_loop (Faulty f) = Faulty f ∷ []
 
+-- what is seen of these marks from outside of a loop
 abbrev pub loop : Marks → Marks
 loop ms = flat_map through_loop ms
 
@@ -78,28 +84,34 @@ function_allows is_async AwaitOutside = is_async
 function_allows is_async BreakOutside = false
 function_allows is_async DoubleName = false
 
+-- what is seen of a mark from outside of a function
 abbrev pub through_function : Bool → Mark → Marks
 through_function is_async (Unless f) = if function_allows is_async f.kind then [] else Faulty f ∷ []
 through_function is_async (Declares n) = Declares n ∷ []
 through_function is_async (Faulty f) = Faulty f ∷ []
 
+-- what is seen of these marks from outside of a function, `async` or not
 abbrev pub function : Bool → Marks → Marks
 function is_async ms = flat_map (through_function is_async) ms
 
 -- ---- the marks of each form
 
+-- the marks of pieces, one piece behind another
 abbrev pub concat : List Marks → Marks
 concat [] = []
 concat (ms ∷ rest) = ms ++ concat rest
 
+-- the marks of a piece that may be missing
 abbrev pub optional : Option Marks → Marks
 optional None = []
 optional (Some ms) = ms
 
+-- each of these names is declared
 abbrev pub declares : List Name → Marks
 declares [] = []
 declares (n ∷ ns) = Declares n ∷ declares ns
 
+-- the name is declared, where there is one
 abbrev pub named : Option Name → Marks
 named None = []
 named (Some n) = Declares n ∷ []
@@ -112,23 +124,28 @@ function_of is_async parameters body = function is_async (scope (declares parame
 abbrev pub loop_body : Marks → Marks
 loop_body ms = loop (scope ms)
 
+-- the marks of what can be written to, from those of its parts
 abbrev pub target_step : Target-F Marks Marks Marks Marks Marks Marks Marks Marks Marks Marks → Marks
 target_step (Target-F.Variable n) = []
 target_step (Target-F.Field object n) = object
 target_step (Target-F.Item object key) = object ++ key
 
+-- the marks of a function, from those of its statements
 abbrev pub function_step : Function-F Marks Marks Marks Marks Marks Marks Marks Marks Marks Marks → Marks
 function_step f = function_of f.is_async f.parameters (concat f.body)
 
+-- the marks of a member of an object, from those of its value
 abbrev pub property_step : Property-F Marks Marks Marks Marks Marks Marks Marks Marks Marks Marks → Marks
 property_step (Property-F.Pair key value) = value
 property_step (Property-F.Short n) = []
 property_step (Property-F.Method key f) = f
 
+-- the marks of an arrow's body, from those of its parts
 abbrev pub arrow_step : ArrowBody-F Marks Marks Marks Marks Marks Marks Marks Marks Marks Marks → Marks
 arrow_step (ArrowBody-F.Statements ss) = concat ss
 arrow_step (ArrowBody-F.Value value) = value
 
+-- the marks of a part of a template, from those of the value behind it
 abbrev pub template_step : TemplateItem-F Marks Marks Marks Marks Marks Marks Marks Marks Marks Marks → Marks
 template_step i = i.value
 
@@ -158,9 +175,11 @@ expr_step (Expr-F.New n arguments) = concat arguments
 expr_step (Expr-F.Member object n) = object
 expr_step (Expr-F.Index object key) = object ++ key
 
+-- the marks of a declaration: its name, then those of its value
 abbrev pub declaration_step : Declaration-F Marks Marks Marks Marks Marks Marks Marks Marks Marks Marks → Marks
 declaration_step d = Declares d.name ∷ optional d.value
 
+-- the marks of what a `for` begins with, from those of its parts
 abbrev pub begin_step : ForBegin-F Marks Marks Marks Marks Marks Marks Marks Marks Marks Marks → Marks
 begin_step ForBegin-F.Nothing = []
 begin_step (ForBegin-F.Declarations kind ds) = concat ds
@@ -170,13 +189,16 @@ begin_step (ForBegin-F.Start e) = e
 abbrev pub catch_step : Catch-F Marks Marks Marks Marks Marks Marks Marks Marks Marks Marks → Marks
 catch_step c = scope (named c.name ++ concat c.body)
 
+-- the statements between braces are one scope (ECMA-262, section 14.2.1)
 abbrev pub block : List Marks → Marks
 block ss = scope (concat ss)
 
+-- the marks of a `finally`, where there is one
 abbrev pub finally_of : Option (List Marks) → Marks
 finally_of None = []
 finally_of (Some ss) = block ss
 
+-- the marks of an `else`, where there is one
 abbrev pub else_of : Option Marks → Marks
 else_of None = []
 else_of (Some s) = scope s
@@ -198,38 +220,49 @@ stmt_step (Stmt-F.Try body catch finally) = block body ++ optional catch ++ fina
 stmt_step Stmt-F.Empty = []
 stmt_step (Stmt-F.Expr e) = e
 
+-- the marks of a whole arrow's body
 abbrev pub of_arrow : ArrowBody → Marks
 of_arrow = fold-ArrowBody Marks Marks Marks Marks Marks Marks Marks Marks Marks Marks arrow_step expr_step begin_step property_step stmt_step target_step catch_step declaration_step function_step template_step
 
+-- the marks of a whole expression
 abbrev pub of_expr : Expr → Marks
 of_expr = fold-Expr Marks Marks Marks Marks Marks Marks Marks Marks Marks Marks arrow_step expr_step begin_step property_step stmt_step target_step catch_step declaration_step function_step template_step
 
+-- the marks of all that a `for` begins with
 abbrev pub of_begin : ForBegin → Marks
 of_begin = fold-ForBegin Marks Marks Marks Marks Marks Marks Marks Marks Marks Marks arrow_step expr_step begin_step property_step stmt_step target_step catch_step declaration_step function_step template_step
 
+-- the marks of a whole member of an object
 abbrev pub of_property : Property → Marks
 of_property = fold-Property Marks Marks Marks Marks Marks Marks Marks Marks Marks Marks arrow_step expr_step begin_step property_step stmt_step target_step catch_step declaration_step function_step template_step
 
+-- the marks of a whole statement
 abbrev pub of_stmt : Stmt → Marks
 of_stmt = fold-Stmt Marks Marks Marks Marks Marks Marks Marks Marks Marks Marks arrow_step expr_step begin_step property_step stmt_step target_step catch_step declaration_step function_step template_step
 
+-- the marks of all of what can be written to
 abbrev pub of_target : Target → Marks
 of_target = fold-Target Marks Marks Marks Marks Marks Marks Marks Marks Marks Marks arrow_step expr_step begin_step property_step stmt_step target_step catch_step declaration_step function_step template_step
 
+-- the marks of a whole `catch`
 abbrev pub of_catch : Catch → Marks
 of_catch = fold-Catch Marks Marks Marks Marks Marks Marks Marks Marks Marks Marks arrow_step expr_step begin_step property_step stmt_step target_step catch_step declaration_step function_step template_step
 
+-- the marks of a whole declaration
 abbrev pub of_declaration : Declaration → Marks
 of_declaration = fold-Declaration Marks Marks Marks Marks Marks Marks Marks Marks Marks Marks arrow_step expr_step begin_step property_step stmt_step target_step catch_step declaration_step function_step template_step
 
+-- the marks of a whole function
 abbrev pub of_function : Function → Marks
 of_function = fold-Function Marks Marks Marks Marks Marks Marks Marks Marks Marks Marks arrow_step expr_step begin_step property_step stmt_step target_step catch_step declaration_step function_step template_step
 
+-- the marks of a part of a template with the whole value behind it
 abbrev pub of_template : TemplateItem → Marks
 of_template = fold-TemplateItem Marks Marks Marks Marks Marks Marks Marks Marks Marks Marks arrow_step expr_step begin_step property_step stmt_step target_step catch_step declaration_step function_step template_step
 
 -- ---- a script
 
+-- the marks of a whole item of a script
 abbrev pub of_item : Item → Marks
 of_item (item.Stmt s) = of_stmt s
 of_item (item.Export properties) = concat (map of_property properties)
@@ -242,6 +275,7 @@ faults_of (Unless f ∷ ms) = f ∷ faults_of ms
 faults_of (Faulty f ∷ ms) = f ∷ faults_of ms
 
 -- the early faults of a script
+-- for each of them ECMA-262 refuses the script before any of it runs (section 17)
 abbrev pub early_faults : List Item → List EarlyFault
 early_faults items = faults_of (scope (concat (map of_item items)))
 

@@ -17,6 +17,7 @@ use Rattle.js_tree.specs.declared.tree.TemplateItem.{TemplateItem}
 abbrev pub Node : Type 0
 Node = Expr-F ArrowBody Expr ForBegin Property Stmt Target Catch Declaration Function TemplateItem
 
+-- what can be written to, where the node is a name or a member; else the expression as it was
 abbrev pub target_in : Expr → Node → Result Target Expr
 target_in e (Expr-F.Name n) = Ok (target.Variable n)
 target_in e (Expr-F.Member o n) = Ok (target.Field o n)

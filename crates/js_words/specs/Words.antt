@@ -31,6 +31,7 @@ sign_strength p.Slash = Some 6
 sign_strength p.Percent = Some 6
 sign_strength _ = None
 
+-- how tightly a token binds as an operator between two operands, if it is one (ECMA-262, sections 13.6 to 13.13)
 abbrev pub strength : TokenKind → Option ℕ
 strength (tok.Punctuator s) = sign_strength s
 strength _ = None
@@ -106,10 +107,12 @@ parameter_word p.Equal = Some w.Default
 parameter_word s = declared_word s
 
 -- at a key
+-- `[` begins a computed key
 abbrev pub key_word : Punctuator → Option Word
 key_word p.OpenBracket = Some w.Computed
 key_word s = sign_word s
 
+-- the word of a sign at each spot, if it has one there
 abbrev pub word_by : Spot → Punctuator → Option Word
 word_by spot.ExpressionBegin s = begin_word s
 word_by spot.StatementBegin s = begin_word s
@@ -118,6 +121,7 @@ word_by spot.DeclaredName s = declared_word s
 word_by spot.Parameter s = parameter_word s
 word_by spot.Key s = key_word s
 
+-- the sign is `[`
 abbrev pub is_open_bracket : Punctuator → Bool
 is_open_bracket p.OpenBracket = true
 is_open_bracket _ = false
@@ -131,10 +135,12 @@ begins_key (tok.Number n) = true
 begins_key (tok.Punctuator s) = is_open_bracket s
 begins_key _ = false
 
+-- the token is `:`
 abbrev pub is_colon : TokenKind → Bool
 is_colon (tok.Punctuator p.Colon) = true
 is_colon _ = false
 
+-- the word of a name that is `get` or `set` (ECMA-262, section 15.4)
 abbrev pub accessor : List ℕ → Option Word
 accessor u = cond (bytes_eq u (codes "get")) (Some w.Get) (cond (bytes_eq u (codes "set")) (Some w.Set) None)
 
@@ -144,6 +150,7 @@ name_word spot.Key u next = cond (begins_key next) (accessor u) None
 name_word spot.StatementBegin u next = cond (is_colon next) (Some w.Label) None
 name_word _ u next = None
 
+-- the word of a name at a spot, by the token behind it
 abbrev pub name_before : Spot → List ℕ → Option Token → Option Word
 name_before s u (Some next) = name_word s u next.kind
 name_before s u None = None
@@ -154,6 +161,7 @@ ends_key (tok.Punctuator p.Colon) = true
 ends_key (tok.Punctuator p.OpenParen) = true
 ends_key _ = false
 
+-- the spot is a key's, and the token behind shows that a key has ended
 abbrev pub is_key_before : Spot → Option Token → Bool
 is_key_before spot.Key (Some next) = ends_key next.kind
 is_key_before _ _ = false
@@ -162,12 +170,14 @@ is_key_before _ _ = false
 abbrev pub reserved_before : Spot → Reserved → Option Token → Option Word
 reserved_before s x next = cond (is_key_before s next) None (reserved_word x)
 
+-- the word of a token of this kind at a spot, by the token behind it
 abbrev pub word_before : Spot → TokenKind → Option Token → Option Word
 word_before s (tok.Reserved x) next = reserved_before s x next
 word_before s (tok.Punctuator x) next = word_by s x
 word_before s (tok.Name u) next = name_before s u next
 word_before s _ next = None
 
+-- the word of a token at a spot, where there is a token
 abbrev pub word_at : Spot → Option Token → Option Token → Option Word
 word_at s (Some t) next = word_before s t.kind next
 word_at s None next = None

@@ -63,6 +63,18 @@ impl Same for u64 {
     }
 }
 
+impl TryClone for i64 {
+    fn try_clone(&self, _alloc: Global) -> Result<i64, NoMemory> {
+        Ok(*self)
+    }
+}
+
+impl Same for i64 {
+    fn same(&self, other: &i64) -> bool {
+        *self == *other
+    }
+}
+
 impl TryClone for bool {
     fn try_clone(&self, _alloc: Global) -> Result<bool, NoMemory> {
         Ok(*self)

@@ -7,6 +7,8 @@ mod exact;
 mod http;
 mod ids;
 mod objects;
+mod queue;
+mod room;
 mod seq;
 mod stack;
 #[cfg(test)]
@@ -24,6 +26,8 @@ pub use objects::{
     Crosses, IoObject, Notes, ObjKind, ObjName, ObjNames, Objects, Objs, OpResult, OpStart,
     OpStarts, Origin, Wake,
 };
+pub use queue::Queue;
+pub use room::RoomList;
 pub use seq::Seq;
 pub use stack::Stack;
 pub use text::{bytes_of, decimal, units_of};

@@ -7,6 +7,7 @@ use Rattle.wd_base.specs.declared.ids.Ip4.{Ip4}
 use Rattle.wd_base.specs.declared.config.Addr.{Addr}
 use Rattle.wd_config.specs.Ranges.{IsIp4}
 
+-- the byte `:`, before a port
 abbrev pub colon : ℕ
 colon = 58
 
@@ -22,6 +23,7 @@ IsNamedHost host = (host ≡ codes "*") ⊎ (host ≡ codes "localhost")
 abbrev pub IsDotted : List ℕ → Type 0
 IsDotted host = (ip : Ip4) × IsIp4 host ip
 
+-- what a socket may listen at: every address (`*`), `localhost`, or one IPv4 address
 abbrev pub IsSocketHost : List ℕ → Type 0
 IsSocketHost host = IsNamedHost host ⊎ IsDotted host
 
@@ -43,6 +45,7 @@ IsHostName host = (0 < length host) × All (λ b. IsTrue (is_host_byte b)) host
 abbrev pub IsNameAndPort : List ℕ → Addr → Type 0
 IsNameAndPort text address = ((text ≡ address.host) × (address.port ≡ 80)) ⊎ ((text ≡ address.host ++ colon ∷ decimal address.port) × IsPort address.port)
 
+-- the text is a host name, and perhaps a port; this is the address that it stands for
 pub record IsExternalAddress (text : List ℕ) (address : Addr) : Type 0 where
   pub host : IsHostName address.host
   pub written : IsNameAndPort text address

@@ -2,6 +2,7 @@
 use Rattle.std.specs.Prelude.{◌≡◌, ◌≤◌, ℕ, List, ◌∷◌, ◌++◌, length}
 use Rattle.std.specs.List.{All}
 
+-- the byte `-`, between year, month and day
 abbrev pub dash : ℕ
 dash = 45
 

@@ -7,6 +7,7 @@ use Rattle.wd_config.specs.declared.schema.StructKind.TheVariants as struct
 use Rattle.wd_config.specs.declared.schema.Shape.{Shape}
 use Rattle.wd_config.specs.declared.schema.Shape.TheVariants as shape
 
+-- how many levels of values a struct of this kind may have, itself among them
 abbrev pub struct_deep : StructKind → ℕ
 struct_deep struct.Config = 7
 struct_deep struct.Service = 5
@@ -20,6 +21,7 @@ struct_deep struct.Disk = 1
 struct_deep struct.Socket = 2
 struct_deep struct.Http = 1
 
+-- how many levels of values a list of this kind may have, itself among them
 abbrev pub list_deep : ListKind → ℕ
 list_deep list.Flags = 1
 list_deep list.Ranges = 1

@@ -9,9 +9,11 @@ use Rattle.wd_config.specs.declared.faults.ConfigFault.{ConfigFault}
 use Rattle.wd_config.specs.declared.faults.Stop.{Stop}
 use Rattle.wd_config.specs.declared.faults.Stop.TheVariants.{Refused, Failed, NoMemory}
 
+-- what is read of a file alone: a value, or why it is refused
 abbrev pub Given : Type 0 → Type 0
 Given A = Result A Refusal
 
+-- refused: the kind of fault, its offset and the name that it is about
 abbrev pub fault : {A : Type 0} → RefusedKind → ℕ → List ℕ → Given A
 fault k p n = Err (record { kind = k; place = p; name = n })
 
@@ -30,10 +32,12 @@ config_kind refused.BadAddress = kind.BadAddress
 config_kind refused.BadRange = kind.BadRange
 config_kind refused.NoScript = kind.NoScript
 
+-- a refusal as a fault of the whole configuration
 abbrev pub config_fault : Refusal → ConfigFault
 config_fault r = record { kind = config_kind r.kind; place = r.place; name = r.name }
 
 infixl 10 ◌>>=◌
+-- the second reading, with what the first gave; the first refusal ends both
 abbrev pub ◌>>=◌ : {A B : Type 0} → Given A → (A → Given B) → Given B
 (Ok x) >>= f = f x
 (Err e) >>= f = Err e

@@ -11,6 +11,7 @@ abbrev pub item_of : List Entry → Slot → Option Item
 item_of [] s = None
 item_of (e ∷ es) s = if same_slot e.slot s then Some e.item else item_of es s
 
+-- an entry is the one for this field
 abbrev pub is_of : Slot → Entry → Bool
 is_of s e = same_slot e.slot s
 

@@ -4,6 +4,7 @@ use Rattle.std.specs.Str.{bytes_eq}
 use Rattle.std.specs.declared.vec.Vec.{Vec}
 use Rattle.std.specs.declared.alloc.Global.{Global}
 
+-- names that are taken, each with its number
 abbrev pub Names : Type 0
 Names = List (List ℕ × ℕ)
 
@@ -25,5 +26,6 @@ has_name ps name = is_some (number_of ps name)
 abbrev pub pair_of : Vec ℕ Global × ℕ → List ℕ × ℕ
 pair_of p = (p.0.items, p.1)
 
+-- the entries of a table of names, as lists of bytes with numbers
 abbrev pub pairs_of : List (Vec ℕ Global × ℕ) → Names
 pairs_of ps = map pair_of ps

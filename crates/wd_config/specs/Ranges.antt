@@ -6,9 +6,11 @@ use Rattle.wd_base.specs.declared.config.Range.{Range}
 use Rattle.wd_base.specs.declared.config.RangeClass.{RangeClass}
 use Rattle.wd_base.specs.declared.config.RangeClass.TheVariants as range
 
+-- the byte `.`, between the parts of an address
 abbrev pub dot : ℕ
 dot = 46
 
+-- the byte `/`, before a block's number of bits
 abbrev pub slash : ℕ
 slash = 47
 

@@ -11,6 +11,7 @@ use Rattle.wd_config.specs.declared.faults.Stop.{Stop}
 use Rattle.wd_config.specs.declared.faults.Stop.TheVariants as stop
 use Rattle.wd_config.specs.Given.{Given, config_fault}
 
+-- what a reading that may need embedded files comes to
 pub data Answer (A : Type 0) : Type 0 where
   Found : A → Answer A
   Refused : ConfigFault → Answer A
@@ -25,9 +26,11 @@ pub record Read (A : Type 0) : Type 0 where
 
 -- ---- readings in a row
 
+-- a value, for which no file was read
 abbrev pub done : {A : Type 0} → A → Read A
 done x = record { embeds = []; answer = Found x }
 
+-- refused, before any file was read
 abbrev pub refuse : {A : Type 0} → ConfigKind → ℕ → List ℕ → Read A
 refuse k p n = record { embeds = []; answer = Refused (record { kind = k; place = p; name = n }) }
 
@@ -36,6 +39,7 @@ infixl 10 ◌>>=◌
 abbrev pub behind : {A : Type 0} → List Placed → Read A → Read A
 behind ws r = record { embeds = ws ++ r.embeds; answer = r.answer }
 
+-- the second reading after the first, whose files were read before; a refusal ends both
 abbrev pub then_read : {A B : Type 0} → List Placed → Answer A → (A → Read B) → Read B
 then_read ws (Found x) k = behind ws (k x)
 then_read ws (Refused f) k = record { embeds = ws; answer = Refused f }
@@ -91,12 +95,14 @@ IsStopAt w (Err (stop.Refused f)) = ⊥
 IsStopAt w (Err (stop.Failed v)) = v ≡ w
 IsStopAt w (Err stop.NoMemory) = Unit {0}
 
+-- the answer is that a file could not be read
 abbrev pub IsFailed : {A : Type 0} → Result A Stop → Type 0
 IsFailed (Ok x) = ⊥
 IsFailed (Err (stop.Refused f)) = ⊥
 IsFailed (Err (stop.Failed w)) = Unit {0}
 IsFailed (Err stop.NoMemory) = ⊥
 
+-- the answer is a fault of an embedded file
 abbrev pub IsEmbedFault : {A : Type 0} → Result A ConfigEnd → Type 0
 IsEmbedFault (Ok x) = ⊥
 IsEmbedFault (Err (Fault f)) = f.kind ≡ kind.EmbedFault

@@ -18,9 +18,11 @@ pub record Row : Type 0 where
   pub name : List ℕ
   pub rule : Rule
 
+-- a field of this name that is supported, and the shape of its value
 abbrev reads : List ℕ → Slot → Shape → Row
 reads name s x = record { name = name; rule = Read s x }
 
+-- a field of this name that workerd has, and that is refused by name
 abbrev left_out : List ℕ → Row
 left_out name = record { name = name; rule = LeftOut }
 
@@ -144,6 +146,7 @@ http_rows =
     ∷ left_out (codes "injectResponseHeaders")
     ∷ []
 
+-- the fields of each struct of the schema
 abbrev pub rows : StructKind → List Row
 rows struct.Config = config_rows
 rows struct.Service = service_rows
@@ -162,10 +165,12 @@ abbrev pub rule_in : List Row → List ℕ → Option Rule
 rule_in [] name = None
 rule_in (r ∷ rs) name = if bytes_eq name r.name then Some r.rule else rule_in rs name
 
+-- the rule for a struct's field of this name, if the schema has such a field
 unfoldable pub rule_of : StructKind → List ℕ → Option Rule
 rule_of kind name = rule_in (rows kind) name
 
 -- the numbers of slots
+-- (each kind of field has another number, so that two kinds are compared by it)
 abbrev pub slot_number : Slot → ℕ
 slot_number slot.Services = 0
 slot_number slot.Sockets = 1
@@ -188,5 +193,6 @@ slot_number slot.Dotfiles = 17
 slot_number slot.Service = 18
 slot_number slot.Style = 19
 
+-- two fields are the same field
 abbrev pub same_slot : Slot → Slot → Bool
 same_slot a b = nat_eq (slot_number a) (slot_number b)

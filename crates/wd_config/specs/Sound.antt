@@ -23,6 +23,7 @@ use Rattle.wd_config.specs.Room.{most_bytes}
 abbrev pub IsFree : Names → List ℕ → Type 0
 IsFree taken name = has_name taken name ≡ false
 
+-- the names of the services, in order
 abbrev pub names_of : List Service → List (List ℕ)
 names_of ss = map (λ s. s.name) ss
 
@@ -30,18 +31,22 @@ names_of ss = map (λ s. s.name) ss
 abbrev pub AreSound : List Service → Type 0
 AreSound ss = Differ (names_of ss) × (length ss < 2 ^ 31)
 
+-- a text that was read is no name that is already taken
 abbrev pub FreeText : Names → Item → Type 0
 FreeText taken (item.Text t) = IsFree taken t
 FreeText taken _ = Unit {0}
 
+-- a service that was read has a name of its own, which no earlier one has
 abbrev pub FreeService : Names → Item → Type 0
 FreeService taken (item.Service s) = IsFree taken s.name
 FreeService taken _ = Unit {0}
 
+-- services that were read have names of their own, no two alike
 abbrev pub ApartServices : Item → Type 0
 ApartServices (item.Services ss) = AreSound ss
 ApartServices _ = Unit {0}
 
+-- the services of a configuration that was read have names of their own
 abbrev pub ApartConfig : Item → Type 0
 ApartConfig (item.Config c) = AreSound c.services
 ApartConfig _ = Unit {0}

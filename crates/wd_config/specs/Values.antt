@@ -56,55 +56,70 @@ pub record Context : Type 0 where
 
 -- ---- the forms of a value
 
+-- the word that a value is, if it is a bare one
 abbrev word_in : Value-F Value Field → Option Placed
 word_in (Value-F.Word w) = Some w
 word_in _ = None
 
+-- a value as a bare word, such as `true`
 unfoldable pub as_word : Value → Option Placed
 as_word v = word_in (out-Value v)
 
+-- the text that a value is, if it is one in quotes
 abbrev text_in : Value-F Value Field → Option Placed
 text_in (Value-F.Text w) = Some w
 text_in _ = None
 
+-- a value as a text in quotes
 unfoldable pub as_text : Value → Option Placed
 as_text v = text_in (out-Value v)
 
+-- the bytes that a value is, if it is a data literal
 abbrev data_in : Value-F Value Field → Option Placed
 data_in (Value-F.Data w) = Some w
 data_in _ = None
 
+-- a value as a data literal, `0x"..."`
 unfoldable pub as_data : Value → Option Placed
 as_data v = data_in (out-Value v)
 
+-- the offset and the path of `embed "PATH"`, if a value is that
 abbrev embed_in : Value-F Value Field → Option (ℕ × Placed)
 embed_in (Value-F.Embed p w) = Some (p, w)
 embed_in _ = None
 
+-- a value as an embedded file
 unfoldable pub as_embed : Value → Option (ℕ × Placed)
 as_embed v = embed_in (out-Value v)
 
+-- the offset and the name of a reference `.NAME`, if a value is that
 abbrev constant_in : Value-F Value Field → Option (ℕ × Placed)
 constant_in (Value-F.Constant p w) = Some (p, w)
 constant_in _ = None
 
+-- a value as a reference to a constant
 unfoldable pub as_constant : Value → Option (ℕ × Placed)
 as_constant v = constant_in (out-Value v)
 
+-- the offset and the fields of a struct, if a value is one
 abbrev pub struct_in : Value-F Value Field → Option (ℕ × List Field)
 struct_in (Value-F.Struct p fs) = Some (p, fs)
 struct_in _ = None
 
+-- a value as a struct in parentheses
 unfoldable pub as_struct : Value → Option (ℕ × List Field)
 as_struct v = struct_in (out-Value v)
 
+-- the items of a list, if a value is one
 abbrev pub list_in : Value-F Value Field → Option (List Value)
 list_in (Value-F.List p vs) = Some vs
 list_in _ = None
 
+-- a value as a list in brackets
 unfoldable pub as_list : Value → Option (List Value)
 as_list v = list_in (out-Value v)
 
+-- the offset at which a form of a value begins
 abbrev place_in : Value-F Value Field → ℕ
 place_in (Value-F.Text w) = w.place
 place_in (Value-F.Data w) = w.place
@@ -121,6 +136,7 @@ place_of v = place_in (out-Value v)
 
 -- ---- constants in place
 
+-- the value of a declaration, if it declares a constant
 abbrev pub value_of : Option Decl → Option Value
 value_of (Some (decl.Const n t v)) = Some v
 value_of _ = None
@@ -129,6 +145,7 @@ value_of _ = None
 unfoldable pub value_at : List Decl → ℕ → Option Value
 value_at file i = value_of (slice_get file i)
 
+-- this constant's number is one of those that are open
 abbrev pub among : List ℕ → ℕ → Bool
 among open_ i = list_any (nat_eq i) open_
 
@@ -136,10 +153,12 @@ among open_ i = list_any (nat_eq i) open_
 abbrev pub InPlace : Type 0
 InPlace = List ℕ × Value
 
+-- the value of a constant, with that constant open too; no value means that there is no such constant
 abbrev pub entered : List ℕ → ℕ → ℕ → Placed → Option Value → Given InPlace
 entered open_ i p w None = fault kind.NoSuchConst p w.bytes
 entered open_ i p w (Some v) = Ok (open_ ++ i ∷ [], v)
 
+-- a reference to a constant: refused if there is none of the name, or if it is open already
 abbrev pub opened_at : List Decl → List ℕ → ℕ → Placed → Option ℕ → Given InPlace
 opened_at file open_ p w None = fault kind.NoSuchConst p w.bytes
 opened_at file open_ p w (Some i) = if among open_ i then fault kind.ConstLoop p w.bytes else entered open_ i p w (value_at file i)
@@ -148,6 +167,7 @@ opened_at file open_ p w (Some i) = if among open_ i then fault kind.ConstLoop p
 unfoldable pub opened : List Decl → Names → List ℕ → ℕ → Placed → Given InPlace
 opened file constants open_ p w = opened_at file open_ p w (number_of constants w.bytes)
 
+-- a value that is no reference; else that of the constant, followed in turn
 abbrev pub followed : (InPlace → Given InPlace) → List Decl → Names → List ℕ → Value → Option (ℕ × Placed) → Given InPlace
 followed go file constants open_ v None = Ok (open_, v)
 followed go file constants open_ v (Some k) = opened file constants open_ k.0 k.1 >>=G go
@@ -163,15 +183,18 @@ in_place file constants open_ v = follow (length file + 1) file constants (open_
 
 -- ---- leaves
 
+-- refused: the value of this field is not of the kind that the schema asks for
 abbrev pub wrong : {A : Type 0} → Placed → ℕ → Given A
 wrong label p = fault kind.WrongKind p label.bytes
 
+-- `true` or `false`, and no other word
 abbrev pub flag : Placed → ℕ → Option Placed → Given Item
 flag label p (Some w) =
     if bytes_eq w.bytes (codes "true") then Ok (item.Flag true) else
     (if bytes_eq w.bytes (codes "false") then Ok (item.Flag false) else wrong label p)
 flag label p None = wrong label p
 
+-- the style of an HTTP service: `host` is the one supported, and `proxy` is refused by name
 abbrev pub style : Placed → ℕ → Option Placed → Given Item
 style label p (Some w) =
     if bytes_eq w.bytes (codes "host") then Ok item.Nothing else
@@ -187,6 +210,7 @@ is_absolute (b ∷ bs) = b == 47
 unfoldable pub full_path : List ℕ → List ℕ → List ℕ
 full_path folder path = if is_absolute path then path else folder ++ path
 
+-- the bytes of an embedded file; a fault where there is no such file
 abbrev pub loaded : ℕ → Placed → Option (Option (List ℕ)) → Read Placed
 loaded p w None = record { embeds = w ∷ []; answer = Untold }
 loaded p w (Some None) = record { embeds = w ∷ []; answer = Refused (config_fault (record { kind = kind.EmbedMissing; place = w.place; name = w.bytes })) }
@@ -200,6 +224,7 @@ utf8_of bytes = if is_utf8 bytes then Some bytes else None
 abbrev pub file_for : Option Stored → List ℕ → Option (Option (List ℕ))
 file_for files path = option_map (λ s. file_at s path) files
 
+-- an embedded file at the path that the text gives, relative to the configuration's folder
 abbrev pub load_at : Context → Placed → ℕ → Placed → Option (List ℕ) → Read Placed
 load_at c label p w None = given (wrong label p)
 load_at c label p w (Some path) = loaded p w (file_for c.files (full_path c.folder path))
@@ -208,10 +233,12 @@ load_at c label p w (Some path) = loaded p w (file_for c.files (full_path c.fold
 abbrev pub load : Context → Placed → ℕ → Placed → Read Placed
 load c label p w = load_at c label p w (utf8_of w.bytes)
 
+-- the bytes of a data literal, where the field may be data
 abbrev pub data_for : Leaf → Value → Option Placed
 data_for leaf.Data v = as_data v
 data_for _ v = None
 
+-- the bytes of a field: of its text, of its data literal, or of the file that it embeds
 abbrev pub sourced : Context → Placed → ℕ → Option Placed → Option Placed → Option (ℕ × Placed) → Read Placed
 sourced c label p (Some w) d e = done w
 sourced c label p None (Some w) e = done w
@@ -222,17 +249,21 @@ sourced c label p None None None = given (wrong label p)
 unfoldable pub source : Context → Placed → Leaf → Value → Read Placed
 source c label k v = sourced c label (place_of v) (as_text v) (data_for k v) (as_embed v)
 
+-- a JSON binding, if its text is JSON (RFC 8259, section 2); else a fault
 abbrev pub json_item : Placed → ℕ → List ℕ → Given Item
 json_item label p units = if accepts start units then Ok (item.Value (bound.Json units)) else fault kind.BadJson p label.bytes
 
+-- the address that a field's text stands for, or a fault
 abbrev pub address_item : Placed → ℕ → Option Addr → Given Item
 address_item label p (Some a) = Ok (item.Address a)
 address_item label p None = fault kind.BadAddress p label.bytes
 
+-- the range of addresses that a list's text stands for, or a fault
 abbrev pub range_item : Placed → ℕ → Option Range → Given Item
 range_item label p (Some r) = Ok (item.Range r)
 range_item label p None = fault kind.BadRange p label.bytes
 
+-- a compatibility date in the form YYYY-MM-DD, which is checked and then ignored
 abbrev pub date_item : Placed → Placed → Given Item
 date_item label w = if is_date w.bytes then Ok item.Nothing else wrong label w.place
 
@@ -268,6 +299,7 @@ unfoldable pub leaf_item : Context → Names → Placed → Leaf → Value → R
 leaf_item c taken label k v = source c label k v >>= λ w. given (checked taken label k w)
 
 -- a word
+-- (a bare one, read as its field asks: a flag, or the style of an HTTP service)
 unfoldable pub word_item : Placed → WordKind → Value → Given Item
 word_item label word.Flag v = flag label (place_of v) (as_word v)
 word_item label word.Style v = style label (place_of v) (as_word v)
@@ -278,6 +310,7 @@ word_item label word.Style v = style label (place_of v) (as_word v)
 abbrev pub Reader : Type 0
 Reader = Names → Placed → Shape → Value → Read Item
 
+-- what each item of such a list is read as
 abbrev pub item_shape : ListKind → Shape
 item_shape list.Flags = shape.Leaf leaf.Text
 item_shape list.Ranges = shape.Leaf leaf.Range
@@ -286,6 +319,7 @@ item_shape list.Bindings = shape.Struct struct.Binding
 item_shape list.Services = shape.Struct struct.Service
 item_shape list.Sockets = shape.Struct struct.Socket
 
+-- what a list of this kind is read to before its first item
 abbrev pub empty_list : ListKind → Item
 empty_list list.Flags = item.Nothing
 empty_list list.Ranges = item.Ranges []
@@ -299,22 +333,27 @@ abbrev pub with_range : List Range → Item → Item
 with_range rs (item.Range r) = item.Ranges (rs ++ r ∷ [])
 with_range rs _ = item.Ranges rs
 
+-- the bindings, with one that was read added at the end
 abbrev pub with_binding : List Binding → Item → Item
 with_binding bs (item.Binding b) = item.Bindings (bs ++ b ∷ [])
 with_binding bs _ = item.Bindings bs
 
+-- the services, with one that was read added at the end
 abbrev pub with_service : List Service → Item → Item
 with_service ss (item.Service s) = item.Services (ss ++ s ∷ [])
 with_service ss _ = item.Services ss
 
+-- the sockets, with one that was read added at the end
 abbrev pub with_socket : List Socket → Item → Item
 with_socket ss (item.Socket s) = item.Sockets (ss ++ s ∷ [])
 with_socket ss _ = item.Sockets ss
 
+-- the source of the first module; the others are of no use
 abbrev pub first_source : Item → Item
 first_source (item.Source f b) = item.Source f b
 first_source _ = item.Nothing
 
+-- what a list was read to, with one item more
 unfoldable pub with_item : Item → Item → Item
 with_item (item.Ranges rs) i = with_range rs i
 with_item (item.Bindings bs) i = with_binding bs i
@@ -329,6 +368,7 @@ with_name taken (item.Service s) = put taken s.name 0
 with_name taken (item.Socket s) = put taken s.name 0
 with_name taken _ = taken
 
+-- one item of a list read, its name taken if it has one
 abbrev pub item_step : Reader → Placed → ListKind → Listed → Value → Read Listed
 item_step read label k l v = read l.taken label (item_shape k) v >>= λ i. done (record { items = with_item l.items i; taken = with_name l.taken i })
 
@@ -337,6 +377,7 @@ abbrev pub is_left_out : ListKind → List Value → Bool
 is_left_out list.Modules vs = nat_lt 1 (length vs)
 is_left_out _ vs = false
 
+-- a value as a list: its items read in order; a list of two modules or more is refused by name
 abbrev pub listed : Reader → Placed → ListKind → ℕ → Option (List Value) → Read Item
 listed read label k p None = given (wrong label p)
 listed read label k p (Some vs) =
@@ -345,9 +386,11 @@ listed read label k p (Some vs) =
 
 -- ---- structs
 
+-- a field of this kind with what its value was read to
 abbrev pub entry : Slot → Item → Entry
 entry s i = record { slot = s; item = i }
 
+-- whether a field may stand here: unknown ones, unsupported ones and second ones are refused by name
 abbrev pub allowed_by : List Entry → Placed → Option Rule → Given (Slot × Shape)
 allowed_by es n None = fault kind.UnknownField n.place n.bytes
 allowed_by es n (Some LeftOut) = fault kind.LeftOut n.place n.bytes
@@ -357,6 +400,7 @@ allowed_by es n (Some (Reads s x)) = if has_slot es s then fault kind.DoubleName
 unfoldable pub allowed : StructKind → List Entry → Placed → Given (Slot × Shape)
 allowed k es n = allowed_by es n (rule_of k n.bytes)
 
+-- one field of a struct read and put after those before it
 abbrev pub field_step : Reader → Names → StructKind → List Entry → Field → Read (List Entry)
 field_step read taken k es f =
     given (allowed k es f.name) >>= λ a.
@@ -370,19 +414,23 @@ bare struct.External = Some (slot.Address, leaf.ExternalAddress)
 bare struct.Disk = Some (slot.Path, leaf.Text)
 bare _ = None
 
+-- a struct written as the one value that stands for its only needed field
 abbrev pub bare_field : Context → Names → Placed → StructKind → Value → Slot → Leaf → Read Item
 bare_field c taken label k v s x = leaf_item c taken label x v >>= λ i. given (built k (place_of v) (entry s i ∷ []))
 
+-- a struct that is not written in parentheses: allowed where the schema lets a bare value stand for it
 abbrev pub bared : Context → Names → Placed → StructKind → Value → Option (Slot × Leaf) → Read Item
 bared c taken label k v None = given (wrong label (place_of v))
 bared c taken label k v (Some b) = bare_field c taken label k v b.0 b.1
 
+-- a value as a struct: its fields read in order, and the struct made of them
 abbrev pub structured : Reader → Context → Names → Placed → StructKind → Value → Option (ℕ × List Field) → Read Item
 structured read c taken label k v (Some b) = along (field_step read taken k) [] b.1 >>= λ es. given (built k b.0 es)
 structured read c taken label k v None = bared c taken label k v (bare k)
 
 -- ---- values
 
+-- a value read as the schema's shape for it: a word, a leaf, a list or a struct
 abbrev pub shaped : Reader → Context → Names → Placed → Shape → Value → Read Item
 shaped read c taken label (shape.Word k) v = given (word_item label k v)
 shaped read c taken label (shape.Leaf k) v = leaf_item c taken label k v

@@ -24,6 +24,7 @@ pub data Reaches (services : List Service) (from : List ℕ) : List ℕ → Type
   Itself : Reaches services from from
   Further : (by to : List ℕ) → Reaches services from by → IsTrue (refers_to services by to) → Reaches services from to
 
+-- the name of a service, empty where there is none
 abbrev pub name_in : Option Service → List ℕ
 name_in None = []
 name_in (Some s) = s.name

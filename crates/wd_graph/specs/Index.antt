@@ -13,5 +13,6 @@ use Rattle.wd_graph.specs.Names.{is_named}
 abbrev pub IsIndexFrom : ℕ → List Service → List (Vec ℕ Global × ℕ) → Type 0
 IsIndexFrom from services entries = (name : List ℕ) → lookup (is_at (λ key. slice_cmp nat_cmp name key.items)) entries ≡ position_from (is_named name) from services
 
+-- a look-up of a name in the entries gives the number, counted from 0, of the first service of that name
 abbrev pub IsIndex : List Service → List (Vec ℕ Global × ℕ) → Type 0
 IsIndex services entries = IsIndexFrom 0 services entries

@@ -12,9 +12,11 @@ met_mark walk number (Some false) = record { marks = slice_set walk.marks number
 met_mark walk number (Some true) = walk
 met_mark walk number None = walk
 
+-- the walk after it met the service of this number
 abbrev pub met : Walk → ℕ → Walk
 met walk number = met_mark walk number (slice_get walk.marks number)
 
+-- the walk after it met a service, if the name that it looked for is one's
 abbrev pub met_number : Walk → Option ℕ → Walk
 met_number walk None = walk
 met_number walk (Some number) = met walk number

@@ -11,10 +11,12 @@ found_mark found name number (Some false) = record { marks = slice_set found.mar
 found_mark found name number (Some true) = found
 found_mark found name number None = found
 
+-- the search after a service, which counts only if it is a Worker
 abbrev pub found_worker : Found → List ℕ → ℕ → Option WorkerDef → Found
 found_worker found name number None = found
 found_worker found name number (Some def) = found_mark found name number (slice_get found.marks number)
 
+-- the search after a name, which counts only if a service has it
 abbrev pub found_number : List Service → Found → List ℕ → Option ℕ → Found
 found_number services found name None = found
 found_number services found name (Some number) = found_worker found name number (worker_at (slice_get services number))

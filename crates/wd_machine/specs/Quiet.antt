@@ -69,7 +69,7 @@ is_over q s t = nat_lt t.generation (q.generation s) || is_dead_wake t.wake
 abbrev pub live_turn : {S : Type 0} → Quiet S → S → TurnIn → TurnGives S
 live_turn q s t = record { isolate = q.renewed s t.generation; objects = t.objects ++ new_objects t.wake; out = quiet_out (q.reply s) q.steps t.wake }
 
--- a dead turn
+-- once its generation is over, a turn changes nothing
 abbrev pub dead_turn : {S : Type 0} → S → TurnIn → TurnGives S
 dead_turn s t = record { isolate = s; objects = t.objects; out = nothing_done }
 
@@ -86,27 +86,33 @@ quiet_means q = record {
   turn = λ s t. if is_over q s t then dead_turn s t else live_turn q s t;
 }
 
+-- nothing is the least number
 least : (n : ℕ) → 0 ≤ n
 least n = omega arith
 
+-- nothing, whichever way it is told, is nothing
 no_zero : (b : Bool) → 0 ≡ (if b then 0 else 0) + 0
 no_zero true = refl
 no_zero false = refl
 
+-- nothing started is nothing, begun anew or not
 zero_either : (b : Bool) → ◌≡◌ {A = ℕ} 0 (if b then 0 else 0)
 zero_either true = refl
 zero_either false = refl
 
+-- the numbers of objects put behind others stand behind theirs
 numbers_push : (os ps : List IoObject) → object_numbers (os ++ ps) ≡ object_numbers os ++ object_numbers ps
 numbers_push [] ps = refl
 numbers_push (o ∷ os) ps = ap (λ ns. o.obj.0 ∷ ns) (numbers_push os ps)
 
+-- the wake's new objects are those that its turn says it made
 new_numbers : (r : Reply) (n : ℕ) (w : Wake) → object_numbers (new_objects w) ≡ numbers (quiet_out r n w).made
 new_numbers r n (Start request) = refl
 new_numbers r n (Done op result) = refl
 new_numbers r n (Cross job) = refl
 new_numbers r n Dead = refl
 
+-- one true part makes the whole true
 or_true : (b : Bool) → (b || true) ≡ true
 or_true true = refl
 or_true false = refl
@@ -116,6 +122,7 @@ has_right : (xs ys : List ℕ) (n : ℕ) → has_number ys n ≡ true → has_nu
 has_right [] ys n e = e
 has_right (x ∷ xs) ys n e = ap (λ b. (x == n) || b) (has_right xs ys n e) ∙ or_true (x == n)
 
+-- a wake's new objects have no links
 links_push : (os : List IoObject) (w : Wake) → links_of (os ++ new_objects w) ≡ links_of os
 links_push [] (Start request) = refl
 links_push [] (Done op result) = refl
@@ -123,6 +130,7 @@ links_push [] (Cross job) = refl
 links_push [] Dead = refl
 links_push (o ∷ os) w = ap (λ ls. link_of o.obj.0 o.link ++ ls) (links_push os w)
 
+-- a wake's new objects are as they are without links
 unlinked_push : (os : List IoObject) (w : Wake) → map unlinked (os ++ new_objects w) ≡ map unlinked os ++ new_objects w
 unlinked_push [] (Start request) = refl
 unlinked_push [] (Done op result) = refl
@@ -147,6 +155,7 @@ record DoesLittle (w : Wake) (out : Out) : Type 0 where
   unreleased : (req obj : ℕ) → has_object out.released req obj ≡ true → ⊥
   blameless : false ≡ out.condemned
 
+-- a quiet turn does little, whatever woke it
 does_little : (r : Reply) (n : ℕ) (w : Wake) → DoesLittle w (quiet_out r n w)
 does_little r n (Start request) = record { made = λ started. refl; ops = refl; rises = (omega arith, tt); freed_new = λ obj e. e; freed_wake = λ obj e. e; unused = λ obj e. false≢true e; no_stray = λ req obj e. false≢true e; unreleased = λ req obj e. false≢true e; blameless = refl }
 does_little r n (Done op result) = record { made = λ started. refl; ops = refl; rises = tt; freed_new = λ obj e. absurd (false≢true e); freed_wake = λ obj e. absurd (false≢true e); unused = λ obj e. false≢true e; no_stray = λ req obj e. false≢true e; unreleased = λ req obj e. false≢true e; blameless = refl }
@@ -158,6 +167,7 @@ handed : (b c : Bool) (n : ℕ) → c ≡ true → (b || ((n == n) && c)) ≡ tr
 handed true c n e = refl
 handed false c n e = ap (λ b. b && c) (eq-eqb n n refl) ∙ e
 
+-- a turn that is not dead keeps the laws of turns
 live_lawful : {S : Type 0} (q : Quiet S) → IsQuiet q → (s : S) (t : TurnIn) → IsTurn (quiet_means q) s t (live_turn q s t)
 live_lawful q is s t = let does : DoesLittle t.wake (quiet_out (q.reply s) q.steps t.wake) = does_little (q.reply s) q.steps t.wake in record {
   made = does.made (started_at (quiet_means q) s t.generation t.req.0) ∙ ap (λ ops. start_objects t.wake ++ count_from (2 + started_at (quiet_means q) s t.generation t.req.0) (length ops)) (sym does.ops);
@@ -182,6 +192,7 @@ live_lawful q is s t = let does : DoesLittle t.wake (quiet_out (q.reply s) q.ste
   workers = is.workers s t.generation;
 }
 
+-- a dead turn keeps the laws of dead turns
 dead_lawful : {S : Type 0} (q : Quiet S) (s : S) (t : TurnIn) → IsDeadTurn (quiet_means q) s t (dead_turn s t)
 dead_lawful q s t = record {
   out = refl;
@@ -194,10 +205,12 @@ dead_lawful q s t = record {
   workers = refl;
 }
 
+-- one false part makes the whole false
 and_false : (b : Bool) → (b && false) ≡ false
 and_false true = refl
 and_false false = refl
 
+-- a false part says nothing
 or_false : (b : Bool) → (b || false) ≡ b
 or_false true = refl
 or_false false = refl
@@ -206,10 +219,12 @@ or_false false = refl
 over_exact : {S : Type 0} (q : Quiet S) (s : S) (t : TurnIn) → is_dead (quiet_means q) s t ≡ is_over q s t
 over_exact q s t = ap (λ b. (nat_lt t.generation (q.generation s) || b) || is_dead_wake t.wake) (and_false (t.generation == q.generation s)) ∙ ap (λ b. b || is_dead_wake t.wake) (or_false (nat_lt t.generation (q.generation s)))
 
+-- no turn touches links
 links_kept : {S : Type 0} (q : Quiet S) (s : S) (t : TurnIn) (b : Bool) → links_of (if b then dead_turn s t else live_turn q s t).objects ≡ links_of t.objects
 links_kept q s t true = refl
 links_kept q s t false = links_push t.objects t.wake
 
+-- a turn does not read the links of its objects
 unread : {S : Type 0} (q : Quiet S) (s : S) (t : TurnIn) (b : Bool) → (if b then dead_turn s (record t { objects = map unlinked t.objects }) else live_turn q s (record t { objects = map unlinked t.objects })) ≡ record (if b then dead_turn s t else live_turn q s t) { objects = map unlinked (if b then dead_turn s t else live_turn q s t).objects }
 unread q s t true = refl
 unread q s t false = λ i. record { isolate = q.renewed s t.generation; objects = sym (unlinked_push t.objects t.wake) i; out = quiet_out (q.reply s) q.steps t.wake }

@@ -47,6 +47,7 @@ with_part (WriteLink Connected) f n = record f { write_connected = n }
 abbrev pub Rose : ℕ → ℕ → Type 0
 Rose old new = min (old + 1) 18446744073709551615 ≤ new
 
+-- a call's own part of the count of faults is greater than before
 abbrev pub RoseIn : Part → Faults → Faults → Type 0
 RoseIn p old new = Rose (part p old) (part p new)
 

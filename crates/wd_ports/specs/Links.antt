@@ -12,6 +12,7 @@ use Rattle.wd_ports.specs.declared.told.Side.TheVariants as opened_by
 use Rattle.wd_ports.specs.declared.told.LinkState.{LinkState}
 use Rattle.wd_ports.specs.Told.{Told, TellsAll, state_of, on_link}
 
+-- the side of a connection: it was accepted at a socket, or it was opened to a peer
 abbrev pub side_of : LinkOrigin → Side
 side_of (Socket s) = opened_by.Accepted
 side_of (Peer ip port) = opened_by.Connected

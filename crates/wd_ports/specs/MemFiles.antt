@@ -10,9 +10,11 @@ use Rattle.wd_ports.specs.declared.told.Faults.{Faults}
 use Rattle.wd_ports.specs.declared.mem_files.MemFiles.{MemFiles}
 use Rattle.wd_ports.specs.Told.{Told, Stored, file_in}
 
+-- the files and folders that a store in memory holds
 abbrev pub stored : MemFiles → Stored
 stored f = record { files = f.files; folders = f.folders }
 
+-- what is observed of a store in memory: its files, and no sockets, connections or host names
 abbrev pub files_told : MemFiles → Told
 files_told f = record { sockets = []; closed = false; given = 0; links = None; files = Some (stored f); hosts = None }
 
@@ -50,5 +52,6 @@ read_fails f path = is_failing f.fail f.calls || nat_lt 536870912 (length (unwra
 abbrev pub no_link : LinkNo → Type 0
 no_link n = ⊥
 
+-- the side of a connection of a file store; it has none, so the answer does not matter
 abbrev pub no_side : LinkNo → Side
 no_side n = Accepted

@@ -31,9 +31,11 @@ use Rattle.wd_ports.specs.MemFiles.{stored, is_failing, next_call}
 use Rattle.wd_ports.specs.Links.{side_of, IsOrigin, last_link}
 use Rattle.wd_ports.specs.Told.{Told, Has, blank, new_link, hosts_at}
 
+-- a connection in memory as it begins: nothing read or sent, and not gone
 abbrev pub new_mem : LinkOrigin → Source → MemLink
 new_mem origin source = record { told = new_link origin; source = source; gone = false }
 
+-- what stands where there is no connection of the number
 abbrev pub blank_mem : MemLink
 blank_mem = record { told = blank; source = from.Arrival 0; gone = false }
 
@@ -77,6 +79,7 @@ pub record Unseen : Type 0 where
   pub calls : ℕ
   pub sources : List Source
 
+-- the part of a network in memory that it does not show
 abbrev pub unseen : MemPort → Unseen
 unseen p = record { schedule = p.schedule; peers = p.peers; fail = p.fail; calls = p.calls; sources = map (λ m. m.source) p.links.items }
 
@@ -152,6 +155,7 @@ link_gone p n = (mem_link p.links.items (n.0 - 1)).gone || source_gone p.schedul
 abbrev pub unread : MemPort → LinkNo → List ℕ
 unread p n = drop (length (mem_link p.links.items (n.0 - 1)).told.received) (source_bytes p.schedule p.peers (mem_link p.links.items (n.0 - 1)).source)
 
+-- what is observed of a network in memory: its sockets, connections, files and host names
 abbrev pub mem_told : MemPort → Told
 mem_told p = record {
   sockets = p.sockets;
@@ -170,15 +174,19 @@ mem_faults p = record p.faults { files = p.files.faults }
 abbrev pub mem_usable : MemPort → LinkNo → Type 0
 mem_usable p n = (0 < n.0) × (n.0 ≤ length p.links.items) × ((mem_link p.links.items (n.0 - 1)).told.shuts ≡ 0)
 
+-- whether the connection of this number was accepted or opened
 abbrev pub mem_side : MemPort → LinkNo → Side
 mem_side p n = side_of (mem_link p.links.items (n.0 - 1)).told.origin
 
+-- the peer of the connection of this number is gone
 abbrev pub mem_gone : MemPort → LinkNo → Type 0
 mem_gone p n = (mem_link p.links.items (n.0 - 1)).gone ≡ true
 
+-- law: a connection that may be used is among those that are observed
 pub usable_has : (p : MemPort) (n : LinkNo) → mem_usable p n → Has (mem_told p) n
 usable_has p n h = (h.0, rw length-map h.1)
 
+-- law: a usable connection is observed to come from the side that it is on
 pub origin_is : (p : MemPort) (n : LinkNo) → mem_usable p n → IsOrigin (mem_told p) n (mem_side p n)
 origin_is p n h = ap (λ l. side_of l.origin) (get_or-map (λ m. m.told) p.links.items (n.0 - 1) blank_mem)
 

@@ -42,6 +42,7 @@ pub record Told : Type 0 where
 abbrev pub new_link : LinkOrigin → LinkState
 new_link origin = record { origin = origin; received = []; ended = false; sent = []; shuts = 0 }
 
+-- what stands where no connection of the number is observed
 abbrev pub blank : LinkState
 blank = new_link (Socket (record { 0 = 0 }))
 
@@ -53,6 +54,7 @@ link_of links n = slice_index_or links (n.0 - 1) blank
 abbrev pub state_of : Told → LinkNo → Option LinkState
 state_of t n = option_map (λ links. link_of links n) t.links
 
+-- what is observed of the connection of this number
 abbrev pub link_told : Told → LinkNo → LinkState
 link_told t n = unwrap_or (state_of t n) blank
 
@@ -68,15 +70,19 @@ TellsAll t = IfSome t.links (λ links. length links ≡ t.given)
 abbrev pub on_link : LinkNo → (LinkState → LinkState) → Told → Told
 on_link n change t = record t { links = option_map (λ links. slice_set links (n.0 - 1) (change (link_of links n))) t.links }
 
+-- the connection with these bytes received after the earlier ones
 abbrev pub with_received : List ℕ → LinkState → LinkState
 with_received bytes l = record l { received = l.received ++ bytes }
 
+-- the connection after its peer has ended sending
 abbrev pub with_end : LinkState → LinkState
 with_end l = record l { ended = true }
 
+-- the connection with these bytes sent after the earlier ones
 abbrev pub with_sent : List ℕ → LinkState → LinkState
 with_sent bytes l = record l { sent = l.sent ++ bytes }
 
+-- the connection after one more shutdown
 abbrev pub with_shut : LinkState → LinkState
 with_shut l = record l { shuts = l.shuts + 1 }
 
@@ -133,6 +139,7 @@ after_write n (Err e) bytes t = t
 abbrev pub file_in : List (List ℕ × List ℕ) → List ℕ → Option (List ℕ)
 file_in files path = lookup (λ q. bytes_eq q path) files
 
+-- the bytes of the file at this path, if there is one
 abbrev pub file_at : Stored → List ℕ → Option (List ℕ)
 file_at s path = file_in s.files path
 
@@ -156,6 +163,7 @@ is_child folder path = starts_with nat_eq path folder && starts_with nat_eq (dro
 unfoldable pub names_in : FileKind → List ℕ → List (List ℕ) → List Name
 names_in kind folder paths = map (λ path. record { text = part_of folder path; kind = kind }) (filter (is_child folder) paths)
 
+-- there is a folder at this path
 abbrev pub has_folder : Stored → List ℕ → Bool
 has_folder s path = list_any (λ folder. bytes_eq folder path) s.folders
 

@@ -23,9 +23,11 @@ sample = record {
   steps = 1;
 }
 
+-- the meaning of the sample isolate
 abbrev pub sample_means : Meaning Sample
 sample_means = quiet_means sample
 
+-- law: the meaning of the sample isolate keeps all laws that an isolate must keep
 pub sample_lawful : IsLawful sample_means
 sample_lawful = quiet_lawful sample (record {
   first_worker = λ def names s e. sym (ap (λ o. (unwrap_or o s).worker) e);

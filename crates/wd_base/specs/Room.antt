@@ -1,0 +1,7 @@
+-- A list and the room that it has.
+use Rattle.std.specs.Prelude.{ℕ, List}
+
+-- the items, and how many more there is room for
+pub record Roomy (X : Type 0) : Type 0 where
+  pub items : List X
+  pub room : ℕ
