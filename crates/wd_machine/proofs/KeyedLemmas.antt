@@ -1,5 +1,5 @@
 -- Rows that are found and changed by a test.
-use Rattle.std.proofs.Common.{◌≡◌, ℕ, zero, suc, ◌+◌, ◌<◌, Bool, true, false, if◌then◌else◌, List, [], ◌∷◌, length, get_or, set, Some, None, refl, ap, arith}
+use Rattle.std.proofs.Common.{◌≡◌, ℕ, zero, suc, ◌+◌, ◌<◌, Bool, true, false, if◌then◌else◌, List, [], ◌∷◌, length, get_or, set, Some, None, refl, sym, ap, ◌∙◌, arith}
 use Rattle.std.specs.List.{position_from, find}
 use Rattle.wd_machine.specs.Keyed.{change}
 
@@ -81,3 +81,7 @@ same_read p xs i d e h =
     let one = find_at p xs i d h in
     let two = find_at p xs i e h in
     cc
+
+-- a row that was read at its place and changed
+pub changed_at : {X : Type 0} (p : X → Bool) (f : X → X) (xs : List X) (i : ℕ) (x y : X) → position_from p 0 xs ≡ Some i → x ≡ get_or xs i x → y ≡ f x → set xs i y ≡ change p f xs
+changed_at p f xs i x y found read is = ap (set xs i) (is ∙ ap f read) ∙ sym (change_at p f xs i x found)

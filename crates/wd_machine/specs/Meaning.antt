@@ -219,16 +219,11 @@ pub record IsTurn {S : Type 0} (m : Meaning S) (s : S) (t : TurnIn) (gives : Tur
   pub worker : m.worker gives.isolate ≡ m.worker s
   pub workers : m.workers gives.isolate ≡ m.workers s
 
--- a dead turn: heap and objects stay as they are, and nothing was done
+-- a dead turn: the isolate and the objects stay as they are, and nothing was done
 pub record IsDeadTurn {S : Type 0} (m : Meaning S) (s : S) (t : TurnIn) (gives : TurnGives S) : Type 0 where
   pub out : gives.out ≡ nothing_done
   pub objects : gives.objects ≡ t.objects
-  pub held : m.held gives.isolate ≡ m.held s
-  pub started : (req : ℕ) → m.started gives.isolate req ≡ m.started s req
-  pub generation : m.generation gives.isolate ≡ m.generation s
-  pub condemned : m.condemned gives.isolate ≡ m.condemned s
-  pub worker : m.worker gives.isolate ≡ m.worker s
-  pub workers : m.workers gives.isolate ≡ m.workers s
+  pub isolate : gives.isolate ≡ s
 
 -- an isolate that a run may come to: the first one of a Worker, and what a turn leaves of such an isolate
 pub data IsReached {S : Type 0} (m : Meaning S) : S → Type 0 where

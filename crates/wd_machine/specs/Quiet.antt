@@ -194,16 +194,7 @@ live_lawful q is s t = let does : DoesLittle t.wake (quiet_out (q.reply s) q.ste
 
 -- a dead turn keeps the laws of dead turns
 dead_lawful : {S : Type 0} (q : Quiet S) (s : S) (t : TurnIn) → IsDeadTurn (quiet_means q) s t (dead_turn s t)
-dead_lawful q s t = record {
-  out = refl;
-  objects = refl;
-  held = refl;
-  started = λ req. refl;
-  generation = refl;
-  condemned = refl;
-  worker = refl;
-  workers = refl;
-}
+dead_lawful q s t = record { out = refl; objects = refl; isolate = refl }
 
 -- one false part makes the whole false
 and_false : (b : Bool) → (b && false) ≡ false
