@@ -50,7 +50,7 @@ least_child req rows = fold (lesser_child req) None rows
 abbrev pub is_met : List RequestState → Duty → Bool
 is_met rows (ToArrive parent op target allow request) = false
 is_met rows (ToAnswer parent op reply) = false
-is_met rows (Children req) = not (is_some (least_child req rows))
+is_met rows (Children req) = not (is_some (least_child req.0 rows))
 
 -- the front duty is met without any entry
 abbrev pub front_is_met : List RequestState → List Duty → Bool
@@ -192,7 +192,7 @@ is_cancel child (Drain seat) = false
 abbrev pub meets : List RequestState → Duty → Entry → Bool
 meets rows (ToArrive parent op target allow request) e = is_arrival parent op target allow request e
 meets rows (ToAnswer parent op reply) e = is_answer parent op reply e
-meets rows (Children req) e = is_cancel (least_child req rows) e
+meets rows (Children req) e = is_cancel (least_child req.0 rows) e
 
 -- the entry is the front duty
 abbrev pub is_front : List RequestState → List Duty → Entry → Bool

@@ -1,5 +1,5 @@
 -- What each entry changes: a chain of changes of the state, each with a name.
-use Rattle.std.specs.Prelude.{ℕ, ◌+◌, ◌-◌, ◌==◌, ◌^◌, nat_lt, min, Bool, true, false, not, ◌&&◌, ◌||◌, if◌then◌else◌, List, [], ◌∷◌, ◌++◌, filter, length, map, Option, Some, None, is_some, unwrap_or}
+use Rattle.std.specs.Prelude.{◌≡◌, ℕ, ◌+◌, ◌-◌, ◌==◌, ◌^◌, nat_lt, min, Bool, true, false, not, ◌&&◌, ◌||◌, if◌then◌else◌, List, [], ◌∷◌, ◌++◌, filter, length, map, Option, Some, None, is_some, unwrap_or}
 use Rattle.std.specs.List.{list_any, fold, insert, position_from}
 use Rattle.wd_base.specs.declared.http.Reply.{Reply}
 use Rattle.wd_base.specs.declared.http.ReqData.{ReqData}
