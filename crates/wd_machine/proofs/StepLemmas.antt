@@ -1,5 +1,5 @@
 -- What a program's change of one row makes of the state.
-use Rattle.std.proofs.Common.{◌≡◌, ℕ, ◌==◌, true, false, if◌then◌else◌, List, [], ◌∷◌, Option, Some, None, Result, Ok, Err, OnOk, get_or, set, refl, sym, ap, subst, ◌∙◌}
+use Rattle.std.proofs.Common.{◌≡◌, ℕ, ◌==◌, true, false, if◌then◌else◌, List, [], ◌∷◌, Option, Some, None, Result, Ok, Err, OnOk, IfOk, get_or, set, refl, sym, ap, subst, ◌∙◌}
 use Rattle.std.proofs.lemmas.Bool.{eqb-true}
 use Rattle.std.proofs.lemmas.List.{set-get_or}
 use Rattle.std.specs.List.{position_from}
@@ -11,7 +11,7 @@ use Rattle.wd_machine.specs.declared.state.SeatState.{SeatState}
 use Rattle.wd_machine.specs.declared.state.State.{State}
 use Rattle.wd_machine.specs.declared.state.Waiter.{Waiter}
 use Rattle.wd_machine.specs.declared.state.WorkerState.{WorkerState}
-use Rattle.wd_machine.specs.Found.{is_request, is_seat, is_worker, request_of, worker_of}
+use Rattle.wd_machine.specs.Found.{is_request, is_seat, is_worker, request_of, worker_of, seat_at, running_in}
 use Rattle.wd_machine.specs.Keyed.{change}
 use Rattle.wd_machine.specs.Places.{place_for}
 use Rattle.wd_machine.specs.Meaning.{Meaning}
@@ -22,6 +22,11 @@ use Rattle.wd_machine.proofs.KeyedLemmas.{changed_at, change_none, find_at, find
 pub OnOk-map : {T E P Q : Type 0} (r : Result T E) → OnOk r P → (P → Q) → OnOk r Q
 OnOk-map (Ok x) p f = f p
 OnOk-map (Err e) p f = tt
+
+-- the same of the value
+pub IfOk-map : {T E : Type 0} {P Q : T → Type 0} (r : Result T E) → IfOk r P → ((x : T) → P x → Q x) → IfOk r Q
+IfOk-map (Ok x) p f = f x p
+IfOk-map (Err e) p f = tt
 
 -- one row was changed at its place
 pub request_changed : {I : Type 0} (s : State I) (req i : ℕ) (f : RequestState → RequestState) (r r' : RequestState)
@@ -66,6 +71,17 @@ worker_kept_in (Some r) ws f found = sym (change_none (is_worker r.service) f ws
 pub worker_kept : {I : Type 0} (s : State I) (req : ℕ) (f : WorkerState I → WorkerState I)
     → place_for (request_of req s.requests) s.workers ≡ None → s ≡ change_worker req f s
 worker_kept s req f found = λ k. record s { workers = worker_kept_in (request_of req s.requests) s.workers f found k }
+
+-- what the seat that was found runs
+pub ran_at : {I : Type 0} (s now : State I) (seat i : ℕ) (t : SeatState)
+    → s ≡ now → position_from (is_seat seat) 0 now.seats ≡ Some i → t ≡ get_or s.seats i t → t.running ≡ running_in (seat_at seat now.seats)
+ran_at {I} s now seat i t same found read =
+    let at = subst (λ (u : State I). position_from (is_seat seat) 0 u.seats ≡ Some i) (sym same) found in
+    ap running_in (ap Some read ∙ sym (find_at (is_seat seat) s.seats i t at)) ∙ ap (λ (u : State I). running_in (seat_at seat u.seats)) same
+
+-- a seat that is not there runs nothing
+pub ran_none : {I : Type 0} (s : State I) (seat : ℕ) → position_from (is_seat seat) 0 s.seats ≡ None → None ≡ running_in (seat_at seat s.seats)
+ran_none s seat found = ap running_in (sym (find_none (is_seat seat) s.seats found))
 
 -- the same from the state that the program's tables make
 pub request_set : {I : Type 0} (s now : State I) (req i : ℕ) (f : RequestState → RequestState) (r r' : RequestState)

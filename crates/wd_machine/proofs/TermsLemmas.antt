@@ -74,10 +74,10 @@ reached_some services from number numbers found reach name =
     let service = (numbered services from number found).service in (
       λ h. let r = name_from services numbers name h in
           let is = (reach.exact r.0).0 r.1 in
-          (there, subst (λ x. has_name services x ≡ true) r.2 (has_at services service r.0 is.0), subst (λ x. Reaches services x name) own (subst (λ x. Reaches services (name_at services number) x) r.2 is.1)),
-      λ h. let k = known_number services name h.1 in
+          (there, (subst (λ x. has_name services x ≡ true) r.2 (has_at services service r.0 is.0), subst (λ x. Reaches services x name) own (subst (λ x. Reaches services (name_at services number) x) r.2 is.1))),
+      λ h. let k = known_number services name h.1.0 in
           let named = number_name services name k.0 k.1 in
-          let reached : IsReached services number k.0 = (place_within (is_named name) services k.0 k.1, subst (λ x. Reaches services (name_at services number) x) (sym named) (subst (λ x. Reaches services x name) (sym own) h.2)) in
+          let reached : IsReached services number k.0 = (place_within (is_named name) services k.0 k.1, subst (λ x. Reaches services (name_at services number) x) (sym named) (subst (λ x. Reaches services x name) (sym own) h.1.1)) in
           subst (λ x. has_text (names_of services numbers) x ≡ true) named (name_to services numbers k.0 ((reach.exact k.0).1 reached)),
     )
 

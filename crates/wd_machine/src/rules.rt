@@ -5,7 +5,7 @@ ghost use Rattle.std.specs.List.{find};
 ghost use Rattle.wd_graph.specs.Names.{service_of};
 ghost use Rattle.wd_machine.specs.Duties.{is_number};
 ghost use Rattle.wd_machine.specs.Found.{waiters_at, waiting, front, holder_of, run_of, running_in, due_in, is_live_on};
-ghost use Rattle.wd_machine.specs.Rules.{kept_number, is_open, is_fresh, broken_arrive, broken_origin, broken_front, broken_begin, broken_field, flight_in, broken_flight, broken_answer, broken_served, is_attached, outer_origin, is_outer, broken_cancel, broken_drain};
+ghost use Rattle.wd_machine.specs.Rules.{kept_number, is_open, is_fresh, broken_arrive, broken_origin, broken_front, broken_begin, broken_field, is_op, flight_in, broken_flight, broken_answer, broken_served, is_attached, outer_origin, is_outer, broken_cancel, broken_drain};
 
 use crate::find::{is_live_on, request_named, worker_named};
 use crate::refusal::{Kept, Refused};
@@ -258,6 +258,13 @@ pub fn field_refused(field: Option<OutField>) -> Option<Refused>
     }
 }
 
+/// The operation of this number.
+fn flight_named(flights: &[Flight], op: u32) -> Option<&Flight>
+    ensures { option_copied result ≡ find (is_op op) flights.now }
+{
+    flights.iter().find(|f| f.op.0 == op)
+}
+
 /// The operation of the request that is in flight, where the request lives on the seat.
 fn flight_in(seat: Seat, op: u32, row: Option<&RequestState>) -> Option<&Flight>
     ensures { option_copied result ≡ flight_in seat.0 op (option_copied row.entry) }
@@ -265,7 +272,7 @@ fn flight_in(seat: Seat, op: u32, row: Option<&RequestState>) -> Option<&Flight>
     match row {
         Some(row) => {
             if is_live_on(Some(row), seat) {
-                row.flights.as_slice().iter().find(|f| f.op.0 == op)
+                flight_named(row.flights.as_slice(), op)
             } else {
                 None
             }

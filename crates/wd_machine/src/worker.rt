@@ -1,5 +1,5 @@
-ghost use Rattle.std.specs.Prelude.{◌≡◌, ◌≤◌, ◌∷◌, ◌++◌, ◌&&◌, [], filter, length, map, OnOk, IfOk};
-ghost use Rattle.std.specs.List.{list_any};
+ghost use Rattle.std.specs.Prelude.{◌≡◌, ◌<◌, ◌≤◌, ◌∷◌, ◌++◌, ◌&&◌, [], filter, length, map, OnOk, IfOk, IfSome};
+ghost use Rattle.std.specs.List.{list_any, position_from};
 ghost use Rattle.wd_machine.specs.Ends.{is_waiter, waits_in};
 ghost use Rattle.wd_machine.specs.Meaning.{is_dead_wake};
 ghost use Rattle.wd_machine.specs.Steps.{waits_too, is_free, is_other, waits_without, raised, is_of, lives_in, is_spent, lightened, is_above, rank, placed, is_stranded, with_stranded, stranded, dead_waiter, gives_up, gives_up_if, same_generation, lives_beside, RunsFront, turn_generation, is_dead_turn};
@@ -130,13 +130,21 @@ fn is_above(req: Req, other: Req) -> bool
     !(other.0 < req.0)
 }
 
-/// The place of a request among ascending ones.
+/// The place of the first request that is not less than this one.
 #[tactic(auto, using(crate::proofs::KeyedLemmas::place_within))]
+fn place_above(reqs: &[Req], req: Req) -> Option<usize>
+    ensures place { result ≡ position_from (is_above req) 0 reqs.now }
+    ensures within { IfSome result (λ i. i < length reqs.now) }
+{
+    reqs.iter().position(|other| is_above(req, *other))
+}
+
+/// The place of a request among ascending ones.
 fn rank(reqs: &[Req], req: Req) -> usize
     ensures rank { result ≡ rank req reqs.now }
     ensures within { result ≤ length reqs.now }
 {
-    match reqs.iter().position(|other| is_above(req, *other)) {
+    match place_above(reqs, req) {
         Some(at) => at,
         None => reqs.len(),
     }
