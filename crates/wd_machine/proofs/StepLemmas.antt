@@ -2,20 +2,22 @@
 use Rattle.std.proofs.Common.{◌≡◌, ℕ, ◌==◌, true, false, if◌then◌else◌, List, [], ◌∷◌, Option, Some, None, Result, Ok, Err, OnOk, IfOk, get_or, set, refl, sym, ap, subst, ◌∙◌}
 use Rattle.std.proofs.lemmas.Bool.{eqb-true}
 use Rattle.std.proofs.lemmas.List.{set-get_or}
-use Rattle.std.specs.List.{position_from}
+use Rattle.std.specs.List.{fold, position_from}
 use Rattle.wd_base.specs.declared.ids.Req.{Req}
 use Rattle.wd_base.specs.declared.ids.Seat.{Seat}
+use Rattle.wd_base.specs.declared.http.Reply.{Reply}
+use Rattle.wd_machine.specs.declared.state.Duty.{Duty}
 use Rattle.wd_machine.specs.declared.state.Pending.{Pending}
 use Rattle.wd_machine.specs.declared.state.RequestState.{RequestState}
 use Rattle.wd_machine.specs.declared.state.SeatState.{SeatState}
 use Rattle.wd_machine.specs.declared.state.State.{State}
 use Rattle.wd_machine.specs.declared.state.Waiter.{Waiter}
 use Rattle.wd_machine.specs.declared.state.WorkerState.{WorkerState}
-use Rattle.wd_machine.specs.Found.{is_request, is_seat, is_worker, request_of, worker_of, seat_at, running_in}
+use Rattle.wd_machine.specs.Found.{is_request, is_seat, is_worker, request_of, worker_of, seat_at, running_in, due_in}
 use Rattle.wd_machine.specs.Keyed.{change}
 use Rattle.wd_machine.specs.Places.{place_for}
 use Rattle.wd_machine.specs.Meaning.{Meaning}
-use Rattle.wd_machine.specs.Steps.{change_request, change_seat, change_worker, change_for, RunsFront, ran, runs, begun, begun_by, begun_in, begun_front, pending_of, is_dead_turn, turn_generation, turn_in, taken_by, starts_turn}
+use Rattle.wd_machine.specs.Steps.{change_request, change_seat, change_worker, change_for, RunsFront, ran, runs, begun, begun_by, begun_in, begun_front, pending_of, is_dead_turn, turn_generation, turn_in, taken_by, starts_turn, freed_by, has_drained, drained, owing, answer_of, owing_answer}
 use Rattle.wd_machine.proofs.KeyedLemmas.{changed_at, change_none, find_at, find_none}
 
 -- a fact where a call answers Ok, of one that follows from it
@@ -124,9 +126,16 @@ found_number (x ∷ rest) req r e =
       | false ↦ λ h e. found_number rest req r e
     ] refl e
 
--- no such request
+-- no such request, or it has no Worker
+begun_nowhere_in : {I : Type 0} (m : Meaning I) (s : State I) (seat : Seat) (o : Option RequestState) → place_for o s.workers ≡ None → s ≡ begun_by m seat o s
+begun_nowhere_in m s seat None found = refl
+begun_nowhere_in m s seat (Some r) found = ap (λ o. begun_in m seat r o s) (sym (find_none (is_worker r.service) s.workers found))
+
+pub begun_nowhere : {I : Type 0} (m : Meaning I) (s : State I) (seat : Seat) (req : Req) → place_for (request_of req.0 s.requests) s.workers ≡ None → s ≡ begun m seat req s
+begun_nowhere m s seat req found = begun_nowhere_in m s seat (request_of req.0 s.requests) found
+
 pub begun_absent : {I : Type 0} (m : Meaning I) (s : State I) (seat : Seat) (req : Req) → position_from (is_request req.0) 0 s.requests ≡ None → s ≡ begun m seat req s
-begun_absent m s seat req e = ap (λ o. begun_by m seat o s) (sym (find_none (is_request req.0) s.requests e))
+begun_absent m s seat req found = ap (λ o. begun_by m seat o s) (sym (find_none (is_request req.0) s.requests found))
 
 -- the tables after the front waiter's turn, if one waits
 begun_cases : {I : Type 0} (m : Meaning I) (s : State I) (seat : Seat) (req : Req) (r r' : RequestState) (w w' : WorkerState I) (i j : ℕ) (made : Option Pending)
@@ -149,14 +158,36 @@ begun_cases {I} m s seat req r r' w w' i j made at place read_row read_worker nu
 
 -- Begin where the request and its Worker were found
 pub begun_found : {I : Type 0} (m : Meaning I) (s now : State I) (seat : Seat) (req : Req) (r r' : RequestState) (w w' : WorkerState I) (i j : ℕ) (made : Option Pending)
-    → s ≡ now → position_from (is_request req.0) 0 now.requests ≡ Some i → position_from (is_worker r.service) 0 now.workers ≡ Some j
+    → s ≡ now → position_from (is_request req.0) 0 now.requests ≡ Some i → place_for (request_of req.0 now.requests) now.workers ≡ Some j
     → r ≡ get_or s.requests i r → w ≡ get_or s.workers j w → RunsFront m w r w.waiters w' r' made
     → ran seat.0 made (record s { workers = set s.workers j w'; requests = set s.requests i r' }) ≡ begun m seat req now
 begun_found {I} m s now seat req r r' w w' i j made same at_now place_now read_row read_worker h =
     let at = subst (λ (t : State I). position_from (is_request req.0) 0 t.requests ≡ Some i) (sym same) at_now in
-    let place = subst (λ (t : State I). position_from (is_worker r.service) 0 t.workers ≡ Some j) (sym same) place_now in
     let row : request_of req.0 s.requests ≡ Some r = find_at (is_request req.0) s.requests i r at ∙ ap Some (sym read_row) in
+    let found = subst (λ (t : State I). place_for (request_of req.0 t.requests) t.workers ≡ Some j) (sym same) place_now in
+    let place : position_from (is_worker r.service) 0 s.workers ≡ Some j = subst (λ o. place_for o s.workers ≡ Some j) row found in
     let worker : worker_of r.service s.workers ≡ Some w = find_at (is_worker r.service) s.workers j w place ∙ ap Some (sym read_worker) in
     let steps : begun m seat req s ≡ begun_front m seat r w w.waiters s = ap (λ o. begun_by m seat o s) row ∙ ap (λ o. begun_in m seat r o s) worker in
     begun_cases m s seat req r r' w w' i j made at place read_row read_worker (found_number s.requests req.0 r row) w.waiters refl h
     ∙ sym steps ∙ ap (begun m seat req) same
+
+-- a seat that is not there frees nothing
+pub drained_absent : {I : Type 0} (s : State I) (seat : Seat) → position_from (is_seat seat.0) 0 s.seats ≡ None → s ≡ drained seat s
+drained_absent s seat found =
+    λ k. record s { requests = ap (λ o. fold freed_by s.requests (due_in o)) (sym (find_none (is_seat seat.0) s.seats found)) k; seats = sym (change_none (is_seat seat.0) has_drained s.seats found) k }
+
+-- the seat that was found has freed what was due
+pub drained_set : {I : Type 0} (s now : State I) (seat : Seat) (i : ℕ) (t t' : SeatState) (rows : List RequestState)
+    → s ≡ now → position_from (is_seat seat.0) 0 now.seats ≡ Some i → t ≡ get_or s.seats i t → t' ≡ has_drained t → rows ≡ fold freed_by s.requests t.due
+    → record s { requests = rows; seats = set s.seats i t' } ≡ drained seat now
+drained_set {I} s now seat i t t' rows same found read is freed =
+    let at = subst (λ (u : State I). position_from (is_seat seat.0) 0 u.seats ≡ Some i) (sym same) found in
+    let row : Some t ≡ seat_at seat.0 s.seats = ap Some read ∙ sym (find_at (is_seat seat.0) s.seats i t at) in
+    let left = freed ∙ ap (λ o. fold freed_by s.requests (due_in o)) row in
+    let seats = changed_at (is_seat seat.0) has_drained s.seats i t t' at read is in
+    (λ k. record s { requests = left k; seats = seats k }) ∙ ap (drained seat) same
+
+-- the seat owes the duty of the request's reply
+pub owed_answer : {I : Type 0} (s now : State I) (seat req : ℕ) (reply : Option Reply) (d : Option Duty)
+    → s ≡ now → d ≡ answer_of s.requests (request_of req s.requests) reply → owing seat d now ≡ owing_answer seat req reply now
+owed_answer {I} s now seat req reply d same is = ap (λ d. owing seat d now) (is ∙ ap (λ (u : State I). answer_of u.requests (request_of req u.requests) reply) same)

@@ -704,16 +704,14 @@ impl<I: Isolate> Machine<I> {
 
     /// The isolate makes the turn of its front waiter, which the seat runs. It is one of this
     /// request.
-    #[tactic(auto, using(crate::proofs::KeyedLemmas::place_within))]
     pub fn begin(&mut self, seat: Seat, req: Req) -> Result<(), NoMemory>
         ensures { OnOk result (self.new ≡ begun I.means seat req self.old) }
     {
         let alloc = *self.requests.allocator();
-        let Some(at) = request_place(self.requests.as_slice(), req) else {
+        let Some(at) = self.request_place(req) else {
             return Ok(());
         };
-        let name = self.requests[at].service.as_slice();
-        let Some(place) = worker_place(self.workers.as_slice(), name) else {
+        let Some(place) = self.worker_place(req) else {
             return Ok(());
         };
         let made = run_front(alloc, &mut self.workers[place], &mut self.requests[at])?;
