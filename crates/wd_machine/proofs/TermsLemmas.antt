@@ -15,7 +15,7 @@ use Rattle.wd_graph.specs.Graph.{Reaches, has_text, has_service, name_in, name_a
 use Rattle.wd_graph.specs.Names.{same_name, has_name, is_named, number_of}
 use Rattle.wd_machine.specs.declared.journal.Head.TheVariants.{Whole}
 use Rattle.wd_machine.proofs.KeyedLemmas.{place_within}
-use Rattle.wd_machine.specs.Rules.{AreTerms, IsReachedFrom, names_of, socket_names}
+use Rattle.wd_machine.specs.Rules.{AreTerms, AreReached, names_of, socket_names}
 
 sockets_named : (xs : List Socket) (name : List ℕ) → has_text (map (λ (socket : Socket). socket.service) xs) name ≡ list_any (λ (socket : Socket). same_name socket.service name) xs
 sockets_named [] name = refl
@@ -67,7 +67,7 @@ has_at services s k within =
 
 -- the names of what the service of this number reaches
 pub reached_some : (services : List Service) (from : List ℕ) (number : ℕ) (numbers : List ServiceNo) → number_of from services ≡ Some number → IsReach services number numbers
-    → (name : List ℕ) → IsTrue (has_text (names_of services numbers) name) ↔ IsReachedFrom services from name
+    → AreReached services from (names_of services numbers)
 reached_some services from number numbers found reach name =
     let own : name_at services number ≡ from = number_name services from number found in
     let there : has_name services from ≡ true = sym (any_from_position (is_named from) services) ∙ ap is_some found in
@@ -85,6 +85,6 @@ none_some : (x : ℕ) → ◌≡◌ {A = Option ℕ} None (Some x) → ⊥
 none_some x e = cc
 
 -- a service that is not there reaches none
-pub reached_none : (services : List Service) (from : List ℕ) → number_of from services ≡ None → (name : List ℕ) → IsTrue (has_text [] name) ↔ IsReachedFrom services from name
+pub reached_none : (services : List Service) (from : List ℕ) → number_of from services ≡ None → AreReached services from []
 reached_none services from none name =
     (λ h. absurd (false≢true h), λ h. let k = known_number services from h.0 in absurd (none_some k.0 (sym none ∙ k.1)))

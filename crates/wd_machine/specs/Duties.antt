@@ -1,5 +1,6 @@
 -- What a seat owes: which duties an entry gives it, which one is the front, and which entry meets it.
-use Rattle.std.specs.Prelude.{ℕ, ◌==◌, nat_lt, Bool, true, false, not, ◌&&◌, if◌then◌else◌, List, [], ◌∷◌, ◌++◌, Option, Some, None, is_some}
+use Rattle.std.specs.Prelude.{ℕ, ◌==◌, nat_lt, Bool, true, false, not, ◌&&◌, if◌then◌else◌, List, [], ◌∷◌, ◌++◌, Option}
+use Rattle.std.specs.Prelude.{Some, None, is_some}
 use Rattle.std.specs.List.{list_any, fold, cons_option}
 use Rattle.wd_base.specs.contracts.http.Reply as reply_type
 use Rattle.wd_base.specs.contracts.http.ReqData as req_data
@@ -83,7 +84,8 @@ arrival workers req o = arrival_if (is_some (worker_of o.target workers)) req o
 -- the duties with those of operations that have started in front, in order
 abbrev pub with_arrivals : {I : Type 0} → List (WorkerState I) → Req → List OpStart → List Duty → List Duty
 with_arrivals workers req [] duties = duties
-with_arrivals workers req (o ∷ rest) duties = cons_option (arrival workers req o) (with_arrivals workers req rest duties)
+with_arrivals workers req (o ∷ rest) duties =
+    cons_option (arrival workers req o) (with_arrivals workers req rest duties)
 
 -- the answer to an operation, while it has not ended
 abbrev pub answer_if : Bool → Req → Op → Reply → Option Duty
@@ -155,7 +157,8 @@ is_reply reply Large = false
 -- the entry is this arrival of a child
 abbrev pub is_arrival : Req → Op → List ℕ → ℕ → ReqData → Entry → Bool
 is_arrival parent op target allow wanted (Arrive seat req service origin left request) =
-    is_origin parent op origin && (same_name service target && ((left == allow) && is_same req_data.the_row.coded wanted request))
+    is_origin parent op origin && (same_name service target && ((left == allow)
+        && is_same req_data.the_row.coded wanted request))
 is_arrival parent op target allow wanted (Begin seat req) = false
 is_arrival parent op target allow wanted (Turn seat req out) = false
 is_arrival parent op target allow wanted (Answer seat req by result) = false
@@ -168,7 +171,8 @@ abbrev pub is_answer : Req → Op → Reply → Entry → Bool
 is_answer parent op wanted (Arrive seat req service origin left request) = false
 is_answer parent op wanted (Begin seat req) = false
 is_answer parent op wanted (Turn seat req out) = false
-is_answer parent op wanted (Answer seat req by result) = (req.0 == parent.0) && ((by.0 == op.0) && is_reply wanted result)
+is_answer parent op wanted (Answer seat req by result) =
+    (req.0 == parent.0) && ((by.0 == op.0) && is_reply wanted result)
 is_answer parent op wanted (Served seat req reply) = false
 is_answer parent op wanted (Cancel seat req) = false
 is_answer parent op wanted (Drain seat) = false

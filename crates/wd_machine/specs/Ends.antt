@@ -1,5 +1,6 @@
 -- When a turn ends its request, and the reply that a request gets that can have no other.
-use Rattle.std.specs.Prelude.{ℕ, ◌==◌, Bool, true, false, not, ◌&&◌, ◌||◌, List, [], ◌∷◌, ◌++◌, length, filter, Option, Some, None, codes, is_some}
+use Rattle.std.specs.Prelude.{ℕ, ◌==◌, Bool, true, false, not, ◌&&◌, ◌||◌, List, [], ◌∷◌, ◌++◌, length, filter, Option}
+use Rattle.std.specs.Prelude.{Some, None, codes, is_some}
 use Rattle.std.specs.List.{list_any}
 use Rattle.wd_base.specs.declared.http.Reply.{Reply}
 use Rattle.wd_base.specs.declared.http.Why.{Why}
@@ -43,11 +44,13 @@ is_settled r p = r.replied || (is_some p.out.reply || r.detached)
 abbrev pub is_idle : RequestState → Bool → Pending → Bool
 is_idle r waiting p = (length r.flights == 0) && ((length p.out.ops == 0) && not waiting)
 
--- the turn ends its request: it was dead or condemned, the request is settled and waits for no promise, or nothing is left of it
+-- the turn ends its request: it was dead or condemned, the request is settled and waits for no promise, or nothing is
+-- left of it
 abbrev pub ends : RequestState → Bool → Pending → Bool
 ends r waiting p = p.dead || (p.out.condemned || (((p.out.waits == 0) && is_settled r p) || is_idle r waiting p))
 
--- why a request gets a reply that its script did not give: settled, it gets none; its generation is over; nothing is left of it
+-- why a request gets a reply that its script did not give: settled, it gets none; its generation is over; nothing is
+-- left of it
 abbrev pub lost_why : Bool → Bool → Bool → Option Why
 lost_why true dead idle = None
 lost_why false true idle = Some Dead
@@ -59,7 +62,8 @@ abbrev pub or_failure : Option Why → Option Reply → Option Reply
 or_failure None reply = reply
 or_failure (Some why) reply = Some (failure why)
 
--- the reply that stands in the entry: the turn's, or that of a request whose generation is over or of which nothing is left
+-- the reply that stands in the entry: the turn's, or that of a request whose generation is over or of which nothing is
+-- left
 abbrev pub whole_reply : RequestState → Bool → Pending → Option Reply
 whole_reply r waiting p = or_failure (lost_why (is_settled r p) p.dead (is_idle r waiting p)) p.out.reply
 

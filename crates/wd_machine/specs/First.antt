@@ -12,7 +12,8 @@ use Rattle.wd_machine.specs.Meaning.{Meaning}
 
 -- a Worker before any entry
 abbrev pub idle_worker : {I : Type 0} → List ℕ → I → WorkerState I
-idle_worker name isolate = record { name = name; isolate = isolate; generation = 0; heavy = false; holder = None; waiters = [] }
+idle_worker name isolate =
+    record { name = name; isolate = isolate; generation = 0; heavy = false; holder = None; waiters = [] }
 
 -- the first isolate of a Worker of the world, if its script does not fail
 abbrev pub first_isolate : {I : Type 0} → Meaning I → List Service → WorkerDef → Option I

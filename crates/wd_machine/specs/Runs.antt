@@ -33,7 +33,8 @@ legal_under m world terms entries = legal_from m world terms (first_state m worl
 
 -- each entry of the journal is allowed after those before it, under what the journal's head says
 abbrev pub IsLegal : {I : Type 0} → Meaning I → Config → Journal → Type 0
-IsLegal m world journal = (terms : Terms) → AreTerms world journal.head terms → legal_under m world terms journal.entries ≡ true
+IsLegal m world journal =
+    (terms : Terms) → AreTerms world journal.head terms → legal_under m world terms journal.entries ≡ true
 
 -- an entry that is allowed was taken, or memory was wanting
 abbrev pub Takes : {I : Type 0} → Meaning I → Core I → Entry → Core I → Result Unit ApplyEnd → Type 0
@@ -43,6 +44,7 @@ Takes m old e new (Err NoMemory) = (new.failed ≡ true) × (new.world ≡ old.w
 
 -- one call of `apply`: the step where the entry is allowed, else the least rule that it breaks and nothing changed
 abbrev pub Applies : {I : Type 0} → Meaning I → Core I → Entry → Core I → Result Unit ApplyEnd → Type 0
-Applies m old e new (Ok x) = (broken m old.world old.terms old.machine e ≡ None) × (new ≡ record old { machine = step m old.machine e })
+Applies m old e new (Ok x) =
+    (broken m old.world old.terms old.machine e ≡ None) × (new ≡ record old { machine = step m old.machine e })
 Applies m old e new (Err (Refuses refused)) = (broken m old.world old.terms old.machine e ≡ Some refused) × (new ≡ old)
 Applies m old e new (Err NoMemory) = (new.failed ≡ true) × (new.world ≡ old.world)

@@ -1,5 +1,7 @@
 -- What each entry changes: a chain of changes of the state, each with a name.
-use Rattle.std.specs.Prelude.{◌≡◌, ℕ, ◌+◌, ◌-◌, ◌==◌, ◌^◌, nat_lt, min, Bool, true, false, not, ◌&&◌, ◌||◌, if◌then◌else◌, List, [], ◌∷◌, ◌++◌, filter, length, map, Option, Some, None, is_some, unwrap_or}
+use Rattle.std.specs.Prelude.{◌≡◌, ℕ, ◌+◌, ◌-◌, ◌==◌, ◌^◌, nat_lt, min, Bool, true, false, not, ◌&&◌, ◌||◌}
+use Rattle.std.specs.Prelude.{if◌then◌else◌, List, [], ◌∷◌, ◌++◌, filter, length, map, Option, Some, None, is_some}
+use Rattle.std.specs.Prelude.{unwrap_or}
 use Rattle.std.specs.List.{list_any, fold, insert, position_from}
 use Rattle.wd_base.specs.declared.http.Reply.{Reply}
 use Rattle.wd_base.specs.declared.http.ReqData.{ReqData}
@@ -30,7 +32,8 @@ use Rattle.wd_machine.specs.declared.state.WorkerState.{WorkerState}
 use Rattle.wd_machine.specs.declared.turn.Out.{Out}
 use Rattle.wd_machine.specs.Duties.{owes, owes_arrivals, meets_duty, settles, answer, children_if}
 use Rattle.wd_machine.specs.Ends.{is_waiter, waits_in, ends, whole_reply, given_reply, without, kept_objects}
-use Rattle.wd_machine.specs.Found.{is_request, is_seat, is_worker, request_of, seat_at, worker_of, waiters_at, running_in, due_in}
+use Rattle.wd_machine.specs.Found.{is_request, is_seat, is_worker, request_of, seat_at, worker_of, waiters_at}
+use Rattle.wd_machine.specs.Found.{running_in, due_in}
 use Rattle.wd_machine.specs.Keyed.{change}
 use Rattle.wd_machine.specs.Meaning.{Meaning, TurnIn, TurnGives, spent, is_dead_wake}
 
@@ -135,7 +138,8 @@ lives_in w r = not r.ended && (is_of w.generation r.generation && same_name r.se
 abbrev pub is_spent : {I : Type 0} → List RequestState → Option ℕ → WorkerState I → Bool
 is_spent rows generation w = w.heavy && (is_of w.generation generation && not (list_any (lives_in w) rows))
 
--- the Worker after the end of a request of this generation: in the next one, where the heap is too large and no request needs it
+-- the Worker after the end of a request of this generation: in the next one, where the heap is too large and no request
+-- needs it
 abbrev pub lightened : {I : Type 0} → List RequestState → Option ℕ → WorkerState I → WorkerState I
 lightened rows generation w = if is_spent rows generation w then renewed w else w
 
@@ -167,9 +171,11 @@ stranded rows w = fold (with_stranded w) [] rows
 abbrev pub dead_waiter : Req → Waiter
 dead_waiter req = record { req = req; wake = Dead }
 
--- the Worker after a condemned turn: in the next generation, and each live request of this one that did not wait gets a dead turn
+-- the Worker after a condemned turn: in the next generation, and each live request of this one that did not wait gets a
+-- dead turn
 abbrev pub gives_up : {I : Type 0} → List RequestState → WorkerState I → WorkerState I
-gives_up rows w = record w { generation = raised w.generation; waiters = w.waiters ++ map dead_waiter (stranded rows w) }
+gives_up rows w =
+    record w { generation = raised w.generation; waiters = w.waiters ++ map dead_waiter (stranded rows w) }
 
 -- the same, where the turn was condemned
 abbrev pub gives_up_if : {I : Type 0} → Bool → List RequestState → WorkerState I → WorkerState I
@@ -210,7 +216,8 @@ abbrev pub change_seat : {I : Type 0} → ℕ → (SeatState → SeatState) → 
 change_seat seat f s = record s { seats = change (is_seat seat) f s.seats }
 
 -- the Workers, where that of a request changes, if there is the request and it has one
-abbrev pub change_for : {I : Type 0} → Option RequestState → (WorkerState I → WorkerState I) → List (WorkerState I) → List (WorkerState I)
+abbrev pub change_for : {I : Type 0} → Option RequestState → (WorkerState I → WorkerState I) → List (WorkerState I)
+    → List (WorkerState I)
 change_for None f workers = workers
 change_for (Some r) f workers = change (is_worker r.service) f workers
 
@@ -253,7 +260,8 @@ turn_generation r w = unwrap_or r.generation w.generation
 
 -- what a turn of a request reads
 abbrev pub turn_in : ℕ → RequestState → Wake → TurnIn
-turn_in generation r wake = record { generation = generation; req = r.req; left = r.left; wake = wake; objects = r.objects }
+turn_in generation r wake =
+    record { generation = generation; req = r.req; left = r.left; wake = wake; objects = r.objects }
 
 -- the turn runs nothing: its generation is over
 abbrev pub is_dead_turn : {I : Type 0} → ℕ → WorkerState I → Wake → Bool
@@ -264,10 +272,12 @@ abbrev pub pending_of : {I : Type 0} → Req → Bool → TurnGives I → Pendin
 pending_of req dead gives = record { req = req; objects = gives.objects; out = gives.out; dead = dead }
 
 -- the front waiter's turn was made, where one waits: the Worker, the request and the turn that runs then
-abbrev pub RunsFront : {I : Type 0} → Meaning I → WorkerState I → RequestState → List Waiter → WorkerState I → RequestState → Option Pending → Type 0
+abbrev pub RunsFront : {I : Type 0} → Meaning I → WorkerState I → RequestState → List Waiter → WorkerState I
+    → RequestState → Option Pending → Type 0
 RunsFront m w r [] w' r' ran = (ran ≡ None) × (w' ≡ w) × (r' ≡ r)
 RunsFront m w r (x ∷ rest) w' r' ran =
-    (ran ≡ Some (pending_of r.req (is_dead_turn (turn_generation r w) w x.wake) (m.turn w.isolate (turn_in (turn_generation r w) r x.wake))))
+    (ran ≡ Some (pending_of r.req (is_dead_turn (turn_generation r w) w x.wake)
+        (m.turn w.isolate (turn_in (turn_generation r w) r x.wake))))
     × (w' ≡ taken_by r.req (m.turn w.isolate (turn_in (turn_generation r w) r x.wake)).isolate rest w)
     × (r' ≡ starts_turn (turn_generation r w) r)
 
@@ -285,7 +295,8 @@ begun_with seat r generation dead gives rest s = record s {
 }
 
 -- Begin of a request with a Worker: the front waiter's turn is made
-abbrev pub begun_front : {I : Type 0} → Meaning I → Seat → RequestState → WorkerState I → List Waiter → State I → State I
+abbrev pub begun_front : {I : Type 0} → Meaning I → Seat → RequestState → WorkerState I → List Waiter → State I
+    → State I
 begun_front m seat r w [] s = s
 begun_front m seat r w (x ∷ rest) s =
     begun_with seat r (turn_generation r w) (is_dead_turn (turn_generation r w) w x.wake)
@@ -344,17 +355,21 @@ abbrev pub replied : {I : Type 0} → ℕ → Option Reply → State I → State
 replied req reply s = change_request req (has_replied reply) s
 
 -- the Workers, where a job that r's turn left for another request waits, if that one lives beside r
-abbrev pub crossed_to : {I : Type 0} → RequestState → JobNo → Option RequestState → List (WorkerState I) → List (WorkerState I)
+abbrev pub crossed_to : {I : Type 0} → RequestState → JobNo → Option RequestState → List (WorkerState I)
+    → List (WorkerState I)
 crossed_to r job None workers = workers
 crossed_to r job (Some o) workers =
-    if lives_beside r o then change (is_worker r.service) (waits_too (record { req = o.req; wake = Cross job })) workers else workers
+    if lives_beside r o then change (is_worker r.service) (waits_too (record { req = o.req; wake = Cross job })) workers
+        else workers
 
 -- the same for one item of the turn's list
-abbrev pub crossed_by : {I : Type 0} → List RequestState → RequestState → List (WorkerState I) → Req × JobNo → List (WorkerState I)
+abbrev pub crossed_by : {I : Type 0} → List RequestState → RequestState → List (WorkerState I) → Req × JobNo
+    → List (WorkerState I)
 crossed_by rows r workers item = crossed_to r item.1 (request_of item.0.0 rows) workers
 
 -- the same for the whole list, in its order
-abbrev pub crossed_in : {I : Type 0} → List RequestState → Option RequestState → List (Req × JobNo) → List (WorkerState I) → List (WorkerState I)
+abbrev pub crossed_in : {I : Type 0} → List RequestState → Option RequestState → List (Req × JobNo)
+    → List (WorkerState I) → List (WorkerState I)
 crossed_in rows None crosses workers = workers
 crossed_in rows (Some r) crosses workers = fold (crossed_by rows r) workers crosses
 
@@ -365,7 +380,8 @@ crossed req crosses s = record s { workers = crossed_in s.requests (request_of r
 -- the seats, where the owner's seat has the object to free, if the owner is of r's Worker
 abbrev pub noted_for : RequestState → ObjName → Option RequestState → List SeatState → List SeatState
 noted_for r name None seats = seats
-noted_for r name (Some o) seats = if same_name o.service r.service then change (is_seat o.seat.0) (has_due name) seats else seats
+noted_for r name (Some o) seats =
+    if same_name o.service r.service then change (is_seat o.seat.0) (has_due name) seats else seats
 
 -- the same for one object that r's turn released
 abbrev pub noted_by : List RequestState → RequestState → List SeatState → ObjName → List SeatState
@@ -401,7 +417,8 @@ owing_answer seat req reply s = owing seat (answer_of s.requests (request_of req
 abbrev pub owing_arrivals : {I : Type 0} → ℕ → Req → List OpStart → State I → State I
 owing_arrivals seat req ops s = change_seat seat (owes_arrivals s.workers req ops) s
 
--- what follows for the seat from an end, a reply and operations: the new duties, each kind in front of the one before it
+-- what follows for the seat from an end, a reply and operations: the new duties, each kind in front of the one before
+-- it
 abbrev pub followed : {I : Type 0} → ℕ → Req → Bool → Option Reply → List OpStart → State I → State I
 followed seat req over reply ops s =
     settled seat (owing_arrivals seat req ops (owing_answer seat req.0 reply (owing seat (children_if over req) s)))
@@ -422,21 +439,27 @@ concluded seat req over is_condemned reply ops s =
 
 -- what comes of a turn: whether the request ends, the reply of the entry, and the one that the request gets
 abbrev pub conclusion_of : RequestState → Bool → Pending → Conclusion
-conclusion_of r waiting p = record { over = ends r waiting p; whole = whole_reply r waiting p; given = given_reply r (whole_reply r waiting p) }
+conclusion_of r waiting p =
+    record { over = ends r waiting p; whole = whole_reply r waiting p; given = given_reply r (whole_reply r waiting p) }
 
 -- the same where the request is looked up
 abbrev pub conclusion : {I : Type 0} → Pending → Option RequestState → List (WorkerState I) → Option Conclusion
 conclusion p None workers = None
 conclusion p (Some r) workers = Some (conclusion_of r (waits_in r.req.0 (waiters_at (worker_of r.service workers))) p)
 
+-- what comes of a turn that runs, in a state
+abbrev pub conclusion_in : {I : Type 0} → Pending → State I → Option Conclusion
+conclusion_in p s = conclusion p (request_of p.req.0 s.requests) s.workers
+
 -- the turn of a request that is there is done
 abbrev pub done_with : {I : Type 0} → ℕ → Pending → Option Conclusion → State I → State I
 done_with seat p None s = s
-done_with seat p (Some c) s = concluded seat p.req c.over p.out.condemned c.given p.out.ops (worked p.req.0 p.out p.objects s)
+done_with seat p (Some c) s =
+    concluded seat p.req c.over p.out.condemned c.given p.out.ops (worked p.req.0 p.out p.objects s)
 
 -- the turn is done
 abbrev pub done : {I : Type 0} → ℕ → Pending → State I → State I
-done seat p s = done_with seat p (conclusion p (request_of p.req.0 s.requests) s.workers) s
+done seat p s = done_with seat p (conclusion_in p s) s
 
 -- the turn that the seat ran is done, if it ran one
 abbrev pub turned_with : {I : Type 0} → ℕ → Option Pending → State I → State I
@@ -460,6 +483,10 @@ entry_out p rows workers = out_with p.out (conclusion p (request_of p.req.0 rows
 abbrev pub turn_out : {I : Type 0} → Option Pending → List RequestState → List (WorkerState I) → Option Out
 turn_out None rows workers = None
 turn_out (Some p) rows workers = Some (entry_out p rows workers)
+
+-- the `Out` of a seat's Turn in a state, if the seat runs one
+abbrev pub turn_gives : {I : Type 0} → ℕ → State I → Option Out
+turn_gives seat s = turn_out (running_in (seat_at seat s.seats)) s.requests s.workers
 
 -- the end of a request with a reply or none, and what follows
 abbrev pub closed : {I : Type 0} → ℕ → Req → Option Reply → State I → State I

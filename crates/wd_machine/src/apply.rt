@@ -34,7 +34,9 @@ impl<I: Isolate + Drop> Core<I> {
         isolates: Vec<I>,
     ) -> Result<Core<I>, NoMemory>
         requires { AreFirst I.means world isolates.items }
-        ensures state { IfOk result (λ core. (core.world ≡ world) × (core.machine ≡ first_state I.means world) × (core.failed ≡ false)) }
+        ensures world { IfOk result (λ core. core.world ≡ world) }
+        ensures state { IfOk result (λ core. core.machine ≡ first_state I.means world) }
+        ensures whole { IfOk result (λ core. core.failed ≡ false) }
         ensures terms { IfOk result (λ core. AreTerms world head.now core.terms) }
     {
         let terms = terms_of(alloc, &world, head)?;

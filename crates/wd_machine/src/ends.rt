@@ -1,5 +1,6 @@
 ghost use Rattle.std.specs.Prelude.{◌≡◌, ◌-◌, ◌++◌, IfOk};
-ghost use Rattle.wd_machine.specs.Ends.{failure, is_settled, is_idle, ends, lost_why, whole_reply, given_reply, is_deaf, without, kept_objects};
+ghost use Rattle.wd_machine.specs.Ends.{failure, is_settled, is_idle, ends, lost_why, whole_reply, given_reply};
+ghost use Rattle.wd_machine.specs.Ends.{is_deaf, without, kept_objects};
 ghost use Rattle.wd_machine.specs.Meaning.{has_obj};
 
 use crate::state::{Pending, RequestState};

@@ -1,7 +1,8 @@
 ghost use Rattle.std.specs.Prelude.{◌≡◌, ◌<◌, length, IfSome};
 ghost use Rattle.std.specs.List.{position_from};
 ghost use Rattle.std.specs.Option.{option_copied};
-ghost use Rattle.wd_machine.specs.Found.{is_worker, is_request, is_seat, request_of, worker_of, worker_for, seat_at, is_live_on};
+ghost use Rattle.wd_machine.specs.Found.{is_worker, is_request, is_seat, request_of, worker_of, worker_for, seat_at};
+ghost use Rattle.wd_machine.specs.Found.{is_live_on};
 ghost use Rattle.wd_machine.specs.Places.{place_for};
 
 use crate::state::{RequestState, SeatState, WorkerState};

@@ -4,17 +4,26 @@ ghost use Rattle.std.specs.Option.{option_copied};
 ghost use Rattle.wd_graph.specs.Names.{worker_in};
 ghost use Rattle.wd_machine.specs.Duties.{owes, children_if};
 ghost use Rattle.wd_machine.specs.Ends.{waits_in};
-ghost use Rattle.wd_machine.specs.Found.{is_request, is_seat, is_worker, request_of, worker_for, waiters_at, seat_at, running_in, run_of, due_in};
+ghost use Rattle.wd_machine.specs.Found.{is_request, is_seat, is_worker, request_of, waiters_at, seat_at, running_in};
 ghost use Rattle.wd_machine.specs.Keyed.{change};
 ghost use Rattle.wd_machine.specs.Places.{place_for};
-ghost use Rattle.wd_machine.specs.Rules.{broken, broken_duty, broken_entry, broken_arrive, broken_begin, broken_turn, broken_running, broken_answer, broken_served, broken_cancel, broken_drain};
-ghost use Rattle.wd_machine.specs.First.{AreFirst, AreFirstOf, first_state, first_workers, first_seats, idle_worker, idle_seat};
-ghost use Rattle.wd_machine.specs.Steps.{step, waits_too, has_due, added, registered, met, settled, arrived, landed, answered, begun, ran, emptied, unwaited, spared, ended, ended_if, returned, committed, replied, crossed, crossed_to, crossed_by, crossed_in, noted, noted_for, noted_by, noted_in, given_up, owing_answer, owing_arrivals, owing, followed, worked, concluded, conclusion, conclusion_of, done, turned, turn_out, closed, served, detached, cancelled_if, cancelled, freed_by, drained, change_seat, rests, generation_of, entry_out};
+ghost use Rattle.wd_machine.specs.Rules.{broken, broken_duty, broken_entry, broken_turn, broken_running, begin_broken};
+ghost use Rattle.wd_machine.specs.Rules.{turn_broken, served_broken, answer_broken, cancel_broken, drain_broken};
+ghost use Rattle.wd_machine.specs.Rules.{arrive_broken};
+ghost use Rattle.wd_machine.specs.First.{AreFirst, AreFirstOf, first_state, first_workers, first_seats, idle_worker};
+ghost use Rattle.wd_machine.specs.First.{idle_seat};
+ghost use Rattle.wd_machine.specs.Steps.{step, waits_too, has_due, added, registered, met, settled, arrived, landed};
+ghost use Rattle.wd_machine.specs.Steps.{answered, begun, ran, emptied, unwaited, spared, ended, ended_if, returned};
+ghost use Rattle.wd_machine.specs.Steps.{committed, replied, crossed, crossed_to, crossed_by, crossed_in, noted};
+ghost use Rattle.wd_machine.specs.Steps.{noted_for, noted_by, noted_in, given_up, owing_answer, owing_arrivals, owing};
+ghost use Rattle.wd_machine.specs.Steps.{followed, worked, concluded, conclusion, conclusion_of, done, turned, closed};
+ghost use Rattle.wd_machine.specs.Steps.{served, detached, cancelled_if, cancelled, freed_by, drained, change_seat};
+ghost use Rattle.wd_machine.specs.Steps.{rests, generation_of, entry_out, conclusion_in, turn_gives};
 
 use crate::compare::first_difference;
 use crate::ends::{ends, given_reply, whole_reply};
 use crate::find::{
-    place_for, request_named, request_place, seat_named, seat_place, worker_for, worker_named,
+    is_live_on, place_for, request_named, request_place, seat_named, seat_place, worker_for, worker_named,
     worker_place,
 };
 use crate::isolate::Isolate;
@@ -24,8 +33,8 @@ use crate::row::{
     has_landed, has_lost, has_replied, has_turned, is_detached, is_over, new_request,
 };
 use crate::rules::{
-    answer_refused, arrive_refused, begin_refused, cancel_refused, drain_refused, due_count,
-    field_refused, nothing_refused, number_refused, run_of, served_refused,
+    answer_refused, arrive_refused, cancel_refused, drain_refused, due_count, field_refused,
+    front_of, front_refused, holder_of, nothing_refused, number_refused, run_of, served_refused,
 };
 use crate::seat::{
     answer_of, children_if, has_drained, has_due, is_front, meets_duty, owes, owes_arrivals, rests,
@@ -404,7 +413,7 @@ impl<I> Machine<I> {
 
     /// What is to come of a turn, where its request is there.
     fn conclusion(&self, pending: &Pending) -> Result<Option<Conclusion>, NoMemory>
-        ensures { IfOk result (λ c. c ≡ conclusion pending.now (request_of pending.now.req.0 self.now.requests) self.now.workers) }
+        ensures { IfOk result (λ c. c ≡ conclusion_in pending.now self.now) }
     {
         let alloc = *self.requests.allocator();
         let row = request_named(self.requests.as_slice(), pending.req);
@@ -450,7 +459,7 @@ impl<I> Machine<I> {
     /// is that of the turn's entry, and None where the seat runs none.
     pub fn turn(&mut self, seat: Seat) -> Result<Option<Out>, NoMemory>
         ensures state { OnOk result (self.new ≡ turned seat self.old) }
-        ensures out { IfOk result (λ out. out ≡ turn_out (running_in (seat_at seat.0 self.old.seats)) self.old.requests self.old.workers) }
+        ensures out { IfOk result (λ out. out ≡ turn_gives seat.0 self.old) }
     {
         let Some(pending) = self.rest(seat) else {
             return Ok(None);
@@ -564,32 +573,37 @@ impl<I> Machine<I> {
         world: &World,
         is_duty: bool,
         req: Req,
-        service: &Bytes,
-        origin: Origin,
+        name: &Bytes,
+        from: Origin,
         allow: u32,
     ) -> Result<Option<Refused>, NoMemory>
-        ensures { IfOk result (λ r. r ≡ broken_arrive terms.now world.now self.now.requests is_duty req.0 service.now origin allow) }
+        ensures { IfOk result (λ r. r ≡ arrive_broken terms.now world.now self.now is_duty req.0 name.now from allow) }
     {
         let alloc = *self.requests.allocator();
         let rows = self.requests.as_slice();
         arrive_refused(
-            alloc, terms, world, rows, is_duty, req, service, origin, allow,
+            alloc, terms, world, rows, is_duty, req, name, from, allow,
         )
     }
 
     /// Why the request's turn may not begin on the seat, if it may not.
     pub fn begin_refused(&self, seat: Seat, req: Req) -> Option<Refused>
-        ensures { result ≡ broken_begin (request_of req.0 self.now.requests) (worker_for (request_of req.0 self.now.requests) self.now.workers) (seat_at seat.0 self.now.seats) seat.0 req.0 }
+        ensures { result ≡ begin_broken self.now seat.0 req.0 }
     {
         let row = request_named(self.requests.as_slice(), req);
+        if !is_live_on(row, seat) {
+            return number_refused(9, req.0);
+        }
         let worker = worker_for(self.workers.as_slice(), row);
         let at = seat_named(self.seats.as_slice(), seat);
-        begin_refused(row, worker, at, seat, req)
+        let first = front_of(worker);
+        let holder = holder_of(worker);
+        front_refused(first, holder, run_of(at), due_count(at) as u64, req)
     }
 
     /// Why the seat's turn of the request may not end with this `Out`, if it may not.
     pub fn turn_refused(&self, seat: Seat, req: Req, out: &Out) -> Result<Option<Refused>, NoMemory>
-        ensures { IfOk result (λ r. r ≡ broken_turn (running_in (seat_at seat.0 self.now.seats)) self.now.requests self.now.workers req.0 out.now) }
+        ensures { IfOk result (λ r. r ≡ turn_broken self.now seat.0 req.0 out.now) }
     {
         match seat_named(self.seats.as_slice(), seat) {
             Some(at) => self.running_refused(at, req, out),
@@ -633,7 +647,7 @@ impl<I> Machine<I> {
 
     /// Why the operation may not be answered, if it may not.
     pub fn answer_refused(&self, is_duty: bool, seat: Seat, req: Req, op: Op) -> Option<Refused>
-        ensures { result ≡ broken_answer (request_of req.0 self.now.requests) self.now.workers is_duty seat.0 op.0 }
+        ensures { result ≡ answer_broken self.now is_duty seat.0 req.0 op.0 }
     {
         let row = request_named(self.requests.as_slice(), req);
         answer_refused(row, self.workers.as_slice(), is_duty, seat, op.0)
@@ -641,7 +655,7 @@ impl<I> Machine<I> {
 
     /// Why the request may not be served, if it may not.
     pub fn served_refused(&self, seat: Seat, req: Req) -> Option<Refused>
-        ensures { result ≡ broken_served (request_of req.0 self.now.requests) (worker_for (request_of req.0 self.now.requests) self.now.workers) seat.0 req.0 }
+        ensures { result ≡ served_broken self.now seat.0 req.0 }
     {
         let row = request_named(self.requests.as_slice(), req);
         let worker = worker_for(self.workers.as_slice(), row);
@@ -650,7 +664,7 @@ impl<I> Machine<I> {
 
     /// Why the request may not be cancelled, if it may not.
     pub fn cancel_refused(&self, is_duty: bool, seat: Seat, req: Req) -> Option<Refused>
-        ensures { result ≡ broken_cancel (request_of req.0 self.now.requests) (run_of (running_in (seat_at seat.0 self.now.seats))) is_duty seat.0 req.0 }
+        ensures { result ≡ cancel_broken self.now is_duty seat.0 req.0 }
     {
         let row = request_named(self.requests.as_slice(), req);
         let run = run_of(seat_named(self.seats.as_slice(), seat));
@@ -659,7 +673,7 @@ impl<I> Machine<I> {
 
     /// Why the seat may not free what is due, if it may not.
     pub fn drain_refused(&self, terms: &Terms, seat: Seat) -> Option<Refused>
-        ensures { result ≡ broken_drain terms.now (run_of (running_in (seat_at seat.0 self.now.seats))) (length (due_in (seat_at seat.0 self.now.seats))) }
+        ensures { result ≡ drain_broken terms.now self.now seat.0 }
     {
         let at = seat_named(self.seats.as_slice(), seat);
         drain_refused(terms, run_of(at), due_count(at))
@@ -835,15 +849,15 @@ fn cross_by<I>(
 
 /// Each job that a request's turn left for a request beside it waits.
 fn crossed_in<I>(
-    workers: &mut Vec<WorkerState<I>>,
+    table: &mut Vec<WorkerState<I>>,
     rows: &[RequestState],
     row: Option<&RequestState>,
-    crosses: &[(Req, JobNo)],
+    jobs: &[(Req, JobNo)],
 ) -> Result<(), NoMemory>
-    ensures { OnOk result (workers.new.items ≡ crossed_in rows.now (option_copied row.entry) crosses.now workers.old.items) }
+    ensures { OnOk result (table.new.items ≡ crossed_in rows.now (option_copied row.entry) jobs.now table.old.items) }
 {
     match row {
-        Some(row) => cross_all(workers, rows, row, crosses),
+        Some(row) => cross_all(table, rows, row, jobs),
         None => Ok(()),
     }
 }

@@ -1,7 +1,8 @@
 ghost use Rattle.std.specs.Prelude.{◌≡◌, ◌-◌, ◌++◌, ◌∷◌, [], filter, map, IfOk, OnOk, None};
 ghost use Rattle.wd_machine.specs.Ends.{without};
 ghost use Rattle.wd_machine.specs.Meaning.{spent};
-ghost use Rattle.wd_machine.specs.Steps.{new_request, flight_of, has_turned, has_replied, is_other_op, has_landed, is_over, is_detached, has_lost};
+ghost use Rattle.wd_machine.specs.Steps.{new_request, flight_of, has_turned, has_replied, is_other_op, has_landed};
+ghost use Rattle.wd_machine.specs.Steps.{is_over, is_detached, has_lost};
 
 use crate::ends::{keep_objects, without};
 use crate::state::{Flight, RequestState};

@@ -5,7 +5,10 @@ ghost use Rattle.std.specs.List.{find};
 ghost use Rattle.wd_graph.specs.Names.{service_of};
 ghost use Rattle.wd_machine.specs.Duties.{is_number};
 ghost use Rattle.wd_machine.specs.Found.{waiters_at, waiting, front, holder_of, run_of, running_in, due_in, is_live_on};
-ghost use Rattle.wd_machine.specs.Rules.{kept_number, is_open, is_fresh, broken_arrive, broken_origin, broken_front, broken_begin, broken_field, is_op, flight_in, broken_flight, broken_answer, broken_served, is_attached, outer_origin, is_outer, broken_cancel, broken_drain};
+ghost use Rattle.wd_machine.specs.Rules.{kept_number, is_open, is_fresh, broken_arrive, broken_origin, broken_front};
+ghost use Rattle.wd_machine.specs.Rules.{broken_field, is_op, flight_in, broken_flight, broken_answer};
+ghost use Rattle.wd_machine.specs.Rules.{broken_served, is_attached, outer_origin, is_outer, broken_cancel};
+ghost use Rattle.wd_machine.specs.Rules.{broken_drain};
 
 use crate::find::{is_live_on, request_named, worker_named};
 use crate::refusal::{Kept, Refused};
@@ -143,7 +146,7 @@ fn origin_refused(
 }
 
 /// The request of the waiter that has waited longest.
-fn front_of<I>(worker: Option<&WorkerState<I>>) -> Option<Req>
+pub fn front_of<I>(worker: Option<&WorkerState<I>>) -> Option<Req>
     ensures { result ≡ waiting (front (waiters_at (option_copied worker.entry))) }
 {
     match worker {
@@ -163,7 +166,7 @@ fn first_waiting(waiters: &Waiters) -> Option<Req>
 }
 
 /// The request whose turn has the Worker's isolate.
-fn holder_of<I>(worker: Option<&WorkerState<I>>) -> Option<Req>
+pub fn holder_of<I>(worker: Option<&WorkerState<I>>) -> Option<Req>
     ensures { result ≡ holder_of (option_copied worker.entry) }
 {
     match worker {
@@ -202,26 +205,8 @@ pub fn due_count(seat: Option<&SeatState>) -> usize
     }
 }
 
-/// Why a turn may not begin, if it may not.
-pub fn begin_refused<I>(
-    row: Option<&RequestState>,
-    worker: Option<&WorkerState<I>>,
-    at: Option<&SeatState>,
-    seat: Seat,
-    req: Req,
-) -> Option<Refused>
-    ensures { result ≡ broken_begin (option_copied row.entry) (option_copied worker.entry) (option_copied at.entry) seat.0 req.0 }
-{
-    if !is_live_on(row, seat) {
-        return number_refused(9, req.0);
-    }
-    let first = front_of(worker);
-    let holder = holder_of(worker);
-    front_refused(first, holder, run_of(at), due_count(at) as u64, req)
-}
-
 /// Why the front waiter's turn may not begin, if it may not.
-fn front_refused(
+pub fn front_refused(
     first: Option<Req>,
     holder: Option<Req>,
     run: Option<Req>,

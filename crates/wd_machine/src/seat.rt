@@ -1,7 +1,11 @@
 ghost use Rattle.std.specs.Prelude.{◌≡◌, ◌∷◌, ◌++◌, [], is_some, OnOk, IfOk, Some};
 ghost use Rattle.std.specs.List.{cons_option};
 ghost use Rattle.std.specs.Option.{option_copied};
-ghost use Rattle.wd_machine.specs.Duties.{is_child_of, is_left_child, lesser, lesser_child, least_child, is_met, front_is_met, is_single, front_is_single, settle, is_flying, flies, arrival_if, arrival, with_arrivals, answer_if, answer_to, answer, children_if, owes, owes_arrivals, meets_duty, settles, is_origin, is_reply, is_arrival, is_answer, is_number, is_cancel, meets, is_front};
+ghost use Rattle.wd_machine.specs.Duties.{is_child_of, is_left_child, lesser, lesser_child, least_child, is_met};
+ghost use Rattle.wd_machine.specs.Duties.{front_is_met, is_single, front_is_single, settle, is_flying, flies};
+ghost use Rattle.wd_machine.specs.Duties.{arrival_if, arrival, with_arrivals, answer_if, answer_to, answer};
+ghost use Rattle.wd_machine.specs.Duties.{children_if, owes, owes_arrivals, meets_duty, settles, is_origin, is_reply};
+ghost use Rattle.wd_machine.specs.Duties.{is_arrival, is_answer, is_number, is_cancel, meets, is_front};
 ghost use Rattle.wd_machine.specs.Found.{request_of};
 ghost use Rattle.wd_machine.specs.Steps.{answer_of, runs, rests, has_due, has_drained};
 

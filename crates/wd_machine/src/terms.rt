@@ -1,7 +1,7 @@
-ghost use Rattle.std.specs.Prelude.{◌≡◌, IfOk, IsTrue, ◌↔◌, List, ℕ};
-ghost use Rattle.wd_graph.specs.Graph.{has_text, name_at};
+ghost use Rattle.std.specs.Prelude.{◌≡◌, IfOk};
+ghost use Rattle.wd_graph.specs.Graph.{name_at};
 ghost use Rattle.wd_machine.specs.declared.journal.Head.TheVariants.{Whole, Part};
-ghost use Rattle.wd_machine.specs.Rules.{AreTerms, IsReachedFrom, names_of, socket_names};
+ghost use Rattle.wd_machine.specs.Rules.{AreTerms, AreReached, names_of, socket_names};
 
 use crate::journal::Head;
 use crate::state::Terms;
@@ -57,7 +57,7 @@ fn socket_names(alloc: Global, world: &World) -> Result<NameList, NoMemory>
 
 /// The names of the services that the service of this name reaches, and none where there is none.
 fn reached_names(alloc: Global, world: &World, from: &[u8]) -> Result<NameList, NoMemory>
-    ensures { IfOk result (λ names. (name : List ℕ) → IsTrue (has_text names name) ↔ IsReachedFrom world.now.services from.now name) }
+    ensures { IfOk result (λ names. AreReached world.now.services from.now names) }
 {
     match world.number(from) {
         Some(number) => {

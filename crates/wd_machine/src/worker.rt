@@ -2,7 +2,10 @@ ghost use Rattle.std.specs.Prelude.{◌≡◌, ◌<◌, ◌≤◌, ◌∷◌, �
 ghost use Rattle.std.specs.List.{list_any, position_from};
 ghost use Rattle.wd_machine.specs.Ends.{is_waiter, waits_in};
 ghost use Rattle.wd_machine.specs.Meaning.{is_dead_wake};
-ghost use Rattle.wd_machine.specs.Steps.{waits_too, is_free, is_other, waits_without, raised, is_of, lives_in, is_spent, lightened, is_above, rank, placed, is_stranded, with_stranded, stranded, dead_waiter, gives_up, gives_up_if, same_generation, lives_beside, RunsFront, turn_generation, is_dead_turn};
+ghost use Rattle.wd_machine.specs.Steps.{waits_too, is_free, is_other, waits_without, raised, is_of, lives_in};
+ghost use Rattle.wd_machine.specs.Steps.{is_spent, lightened, is_above, rank, placed, is_stranded, with_stranded};
+ghost use Rattle.wd_machine.specs.Steps.{stranded, dead_waiter, gives_up, gives_up_if, same_generation, lives_beside};
+ghost use Rattle.wd_machine.specs.Steps.{RunsFront, turn_generation, is_dead_turn};
 
 use crate::isolate::Isolate;
 use crate::quiet::is_dead_wake;

@@ -1,6 +1,10 @@
 ghost use Rattle.std.specs.Prelude.{◌≡◌, ◌∷◌, [], IfOk};
 ghost use Rattle.wd_graph.specs.Links.{linked};
-ghost use Rattle.wd_sample.specs.Hello.{hello_config, hello_worker, first_sample};
+ghost use Rattle.wd_machine.specs.declared.journal.Head.TheVariants.{Whole, Part};
+ghost use Rattle.wd_machine.specs.First.{first_state};
+ghost use Rattle.wd_machine.specs.Rules.{AreTerms};
+ghost use Rattle.wd_sample.specs.Hello.{hello, hello_config, hello_worker, first_sample};
+ghost use Rattle.wd_sample.specs.Turns.{sample_means};
 
 use crate::isolate::Sample;
 use std::alloc::Global;
@@ -70,9 +74,29 @@ fn first_samples(alloc: Global) -> Result<Vec<Sample>, NoMemory>
     Ok(isolates)
 }
 
-/// The machine of that world, before any entry of a whole journal.
-pub fn hello_core(alloc: Global) -> Result<Core<Sample>, NoMemory> {
+/// The machine of that world, before any entry of a journal of this head.
+fn core_of(alloc: Global, head: &Head) -> Result<Core<Sample>, NoMemory>
+    ensures terms { IfOk result (λ core. AreTerms (linked hello_config) head.now core.terms) }
+    ensures state { IfOk result (λ core. core.machine ≡ first_state sample_means (linked hello_config)) }
+{
     let world = hello_world(alloc)?;
     let isolates = first_samples(alloc)?;
-    Core::new(alloc, world, &Head::Whole, isolates)
+    Core::new(alloc, world, head, isolates)
+}
+
+/// The machine of that world, before any entry of a whole journal.
+pub fn hello_core(alloc: Global) -> Result<Core<Sample>, NoMemory>
+    ensures terms { IfOk result (λ core. AreTerms (linked hello_config) Whole core.terms) }
+    ensures state { IfOk result (λ core. core.machine ≡ first_state sample_means (linked hello_config)) }
+{
+    core_of(alloc, &Head::Whole)
+}
+
+/// The machine of that world, before any entry of the part of the Worker `hello`.
+pub fn hello_part(alloc: Global) -> Result<Core<Sample>, NoMemory>
+    ensures terms { IfOk result (λ core. AreTerms (linked hello_config) (Part hello) core.terms) }
+    ensures state { IfOk result (λ core. core.machine ≡ first_state sample_means (linked hello_config)) }
+{
+    let name = Seq::copy(alloc, b"hello")?;
+    core_of(alloc, &Head::Part(name))
 }

@@ -6,5 +6,5 @@ mod isolate;
 #[cfg(test)]
 mod tests;
 
-pub use hello::hello_core;
+pub use hello::{hello_core, hello_part};
 pub use isolate::Sample;

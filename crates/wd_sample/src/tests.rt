@@ -1,13 +1,17 @@
-use crate::hello::hello_core;
+use crate::hello::{hello_core, hello_part};
+use crate::isolate::Sample;
 use std::alloc::Global;
-use wd_base::{LinkNo, NoMemory, Obj, Objs, Origin, Reply, Req, ReqData, Seat, Seq, Why};
-use wd_machine::{ApplyEnd, Entry, Kept, Out, OutField};
+use wd_base::{
+    LinkNo, NoMemory, Obj, Objs, Op, OpResult, Origin, Reply, Req, ReqData, Seat, Seq, Why,
+};
+use wd_machine::{ApplyEnd, Core, Entry, Kept, Out, OutField};
 
 fn arrive(
     alloc: Global,
     seat: u32,
     req: u64,
     service: &[u8],
+    origin: Origin,
     allow: u32,
 ) -> Result<Entry, NoMemory> {
     let request = ReqData {
@@ -20,7 +24,7 @@ fn arrive(
         seat: Seat(seat),
         req: Req(req),
         service: Seq::copy(alloc, service)?,
-        origin: Origin::Outside(LinkNo(1)),
+        origin,
         allow,
         request,
     })
@@ -93,6 +97,7 @@ enum Step<'a> {
         seat: u32,
         req: u64,
         service: &'a [u8],
+        origin: Origin,
         allow: u32,
     },
     Begin {
@@ -103,6 +108,32 @@ enum Step<'a> {
         req: u64,
         steps: u32,
     },
+    Answer {
+        req: u64,
+    },
+    Served {
+        req: u64,
+    },
+    Cancel {
+        seat: u32,
+        req: u64,
+    },
+    Drain,
+}
+
+/// The reply of a service that is no Worker.
+fn served(alloc: Global, req: u64) -> Result<Entry, NoMemory> {
+    let reply = Reply {
+        status: 204,
+        fields: Seq::new(alloc),
+        body: Seq::new(alloc),
+        why: Why::Service,
+    };
+    Ok(Entry::Served {
+        seat: Seat(0),
+        req: Req(req),
+        reply,
+    })
 }
 
 fn entry_of(alloc: Global, step: &Step<'_>) -> Result<Entry, NoMemory> {
@@ -111,16 +142,33 @@ fn entry_of(alloc: Global, step: &Step<'_>) -> Result<Entry, NoMemory> {
             seat,
             req,
             service,
+            origin,
             allow,
-        } => arrive(alloc, *seat, *req, service, *allow),
+        } => arrive(alloc, *seat, *req, service, *origin, *allow),
         Step::Begin { seat, req } => Ok(begin(*seat, *req)),
         Step::Turn { req, steps } => turn(alloc, *req, *steps),
+        Step::Answer { req } => Ok(Entry::Answer {
+            seat: Seat(0),
+            req: Req(*req),
+            op: Op(0),
+            result: OpResult::Lost,
+        }),
+        Step::Served { req } => served(alloc, *req),
+        Step::Cancel { seat, req } => Ok(Entry::Cancel {
+            seat: Seat(*seat),
+            req: Req(*req),
+        }),
+        Step::Drain => Ok(Entry::Drain { seat: Seat(0) }),
     }
 }
 
 /// Whether each step in turn came to what stands beside it.
-fn came_so(alloc: Global, steps: &[(Step<'_>, u8, u64)]) -> Result<bool, NoMemory> {
-    let mut core = hello_core(alloc)?;
+fn came_so(
+    alloc: Global,
+    core: Core<Sample>,
+    steps: &[(Step<'_>, u8, u64)],
+) -> Result<bool, NoMemory> {
+    let mut core = core;
     for (step, rule, kept) in steps {
         let entry = entry_of(alloc, step)?;
         let (broken, number) = refusal(core.apply(&entry));
@@ -136,6 +184,18 @@ fn arrival(seat: u32, req: u64, service: &[u8], allow: u32) -> Step<'_> {
         seat,
         req,
         service,
+        origin: Origin::Outside(LinkNo(1)),
+        allow,
+    }
+}
+
+/// An arrival from a caller that the journal does not show.
+fn call(req: u64, service: &[u8], allow: u32) -> Step<'_> {
+    Step::Arrive {
+        seat: 0,
+        req,
+        service,
+        origin: Origin::Caller,
         allow,
     }
 }
@@ -151,7 +211,7 @@ fn arrivals(rt: HostRuntime) -> Result<(), NoMemory> {
         (arrival(0, 2, b"internet", 1000), 5, 8),
         (arrival(0, 2, b"hello", 999), 6, 1000),
     ];
-    assert!(&rt; came_so(rt.alloc(), &steps)?);
+    assert!(&rt; came_so(rt.alloc(), hello_core(rt.alloc())?, &steps)?);
     Ok(())
 }
 
@@ -171,6 +231,53 @@ fn turns(rt: HostRuntime) -> Result<(), NoMemory> {
         (Step::Begin { seat: 0, req: 1 }, 9, 1),
         (Step::Begin { seat: 0, req: 2 }, 0, 0),
     ];
-    assert!(&rt; came_so(rt.alloc(), &steps)?);
+    assert!(&rt; came_so(rt.alloc(), hello_core(rt.alloc())?, &steps)?);
+    Ok(())
+}
+
+#[test]
+fn other_entries(rt: HostRuntime) -> Result<(), NoMemory> {
+    let child = Step::Arrive {
+        seat: 0,
+        req: 9,
+        service: b"hello",
+        origin: Origin::Child(Req(1), Op(0)),
+        allow: 0,
+    };
+    let steps = [
+        (call(1, b"hello", 1000), 8, 1000),
+        (child, 7, 99),
+        (Step::Turn { req: 1, steps: 1 }, 14, 99),
+        (Step::Drain, 21, 99),
+        (arrival(0, 1, b"hello", 1000), 0, 0),
+        (arrival(0, 2, b"hello", 1000), 0, 0),
+        (Step::Answer { req: 1 }, 16, 99),
+        (Step::Served { req: 1 }, 18, 1),
+        (Step::Cancel { seat: 1, req: 1 }, 19, 1),
+        (Step::Begin { seat: 0, req: 1 }, 0, 0),
+        (Step::Drain, 21, 1),
+        (Step::Cancel { seat: 0, req: 2 }, 19, 2),
+        (Step::Turn { req: 1, steps: 1 }, 0, 0),
+        (Step::Cancel { seat: 0, req: 1 }, 19, 1),
+        (Step::Cancel { seat: 0, req: 2 }, 0, 0),
+        (Step::Begin { seat: 0, req: 2 }, 9, 2),
+    ];
+    assert!(&rt; came_so(rt.alloc(), hello_core(rt.alloc())?, &steps)?);
+    Ok(())
+}
+
+#[test]
+fn parts(rt: HostRuntime) -> Result<(), NoMemory> {
+    let steps = [
+        (call(1, b"internet", 1001), 8, 1000),
+        (call(1, b"internet", 1000), 0, 0),
+        (Step::Begin { seat: 0, req: 1 }, 10, 99),
+        (Step::Served { req: 1 }, 0, 0),
+        (Step::Served { req: 1 }, 18, 1),
+        (call(2, b"hello", 0), 0, 0),
+        (Step::Cancel { seat: 0, req: 2 }, 0, 0),
+        (Step::Drain, 0, 0),
+    ];
+    assert!(&rt; came_so(rt.alloc(), hello_part(rt.alloc())?, &steps)?);
     Ok(())
 }

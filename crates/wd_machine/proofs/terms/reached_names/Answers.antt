@@ -1,7 +1,6 @@
-use Rattle.std.proofs.Common.{◌↔◌, ℕ, List, IsTrue, sym, ap, ◌∙◌, subst}
-use Rattle.wd_graph.specs.Graph.{has_text}
+use Rattle.std.proofs.Common.{sym, ap, ◌∙◌, subst}
 use Rattle.wd_graph.specs.Names.{is_named}
-use Rattle.wd_machine.specs.Rules.{IsReachedFrom, names_of}
+use Rattle.wd_machine.specs.Rules.{AreReached, names_of}
 use Rattle.wd_machine.proofs.KeyedLemmas.{place_within}
 use Rattle.wd_machine.proofs.StepLemmas.{IfOk-map}
 use Rattle.wd_machine.proofs.TermsLemmas.{reached_some, reached_none}
@@ -13,10 +12,10 @@ reach-requires c = place_within (is_named c.args.from.now) c.args.world.now.serv
 pub returns-in_ok-numbers-in-Some : goal.returns-in_ok-numbers-in-Some
 returns-in_ok-numbers-in-Some c =
     IfOk-map c.names_of.result c.names_of.ensures (λ names is.
-    subst (λ (x : List (List ℕ)). (name : List ℕ) → IsTrue (has_text x name) ↔ IsReachedFrom c.args.world.now.services c.args.from.now name) (sym (is ∙ ap (names_of c.args.world.now.services) c.as_slice.ensures))
+    subst (AreReached c.args.world.now.services c.args.from.now) (sym (is ∙ ap (names_of c.args.world.now.services) c.as_slice.ensures))
     (reached_some c.args.world.now.services c.args.from.now c.in-Some.number.0 c.in_ok-numbers-in-Some.numbers (sym c.in-Some.ensures) c.in_ok-numbers-in-Some.ensures))
 
 pub returns-in-None : goal.returns-in-None
 returns-in-None c =
-    subst (λ (x : List (List ℕ)). (name : List ℕ) → IsTrue (has_text x name) ↔ IsReachedFrom c.args.world.now.services c.args.from.now name) (sym c.new.ensures)
+    subst (AreReached c.args.world.now.services c.args.from.now) (sym c.new.ensures)
     (reached_none c.args.world.now.services c.args.from.now (sym c.in-None.ensures))
