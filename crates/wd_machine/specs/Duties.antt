@@ -1,5 +1,5 @@
 -- What a seat owes: which duties an entry gives it, which one is the front, and which entry meets it.
-use Rattle.std.specs.Prelude.{ℕ, ◌==◌, nat_lt, Bool, true, false, not, ◌&&◌, if◌then◌else◌, List, [], ◌∷◌, ◌++◌, Option}
+use Rattle.std.specs.Prelude.{ℕ, ◌==◌, nat_lt, Bool, true, false, not, ◌&&◌, if◌then◌else◌, List, [], ◌∷◌, Option}
 use Rattle.std.specs.Prelude.{Some, None, is_some}
 use Rattle.std.specs.List.{list_any, fold, cons_option}
 use Rattle.wd_base.specs.contracts.http.Reply as reply_type
@@ -158,7 +158,7 @@ is_reply reply Large = false
 abbrev pub is_arrival : Req → Op → List ℕ → ℕ → ReqData → Entry → Bool
 is_arrival parent op target allow wanted (Arrive seat req service origin left request) =
     is_origin parent op origin && (same_name service target && ((left == allow)
-        && is_same req_data.the_row.coded wanted request))
+    && is_same req_data.the_row.coded wanted request))
 is_arrival parent op target allow wanted (Begin seat req) = false
 is_arrival parent op target allow wanted (Turn seat req out) = false
 is_arrival parent op target allow wanted (Answer seat req by result) = false

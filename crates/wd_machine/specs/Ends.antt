@@ -1,5 +1,5 @@
 -- When a turn ends its request, and the reply that a request gets that can have no other.
-use Rattle.std.specs.Prelude.{ℕ, ◌==◌, Bool, true, false, not, ◌&&◌, ◌||◌, List, [], ◌∷◌, ◌++◌, length, filter, Option}
+use Rattle.std.specs.Prelude.{ℕ, ◌==◌, Bool, true, false, not, ◌&&◌, ◌||◌, List, [], ◌∷◌, length, filter, Option}
 use Rattle.std.specs.Prelude.{Some, None, codes, is_some}
 use Rattle.std.specs.List.{list_any}
 use Rattle.wd_base.specs.declared.http.Reply.{Reply}

@@ -1,5 +1,5 @@
 -- The objects that the entries of a journal made and freed, each by its name and in order.
-use Rattle.std.specs.Prelude.{◌≡◌, ℕ, ◌==◌, nat_lt, Bool, true, false, if◌then◌else◌, List, [], ◌∷◌, ◌++◌, map, Option}
+use Rattle.std.specs.Prelude.{◌==◌, nat_lt, Bool, true, false, if◌then◌else◌, List, [], ◌∷◌, ◌++◌, map, Option}
 use Rattle.std.specs.Prelude.{Some, None}
 use Rattle.std.specs.List.{fold}
 use Rattle.wd_base.specs.declared.config.Config.{Config}
@@ -52,7 +52,7 @@ abbrev pub turn_frees : {I : Type 0} → State I → Option Pending → List Obj
 turn_frees s None = []
 turn_frees s (Some p) =
     map (named p.req) (p.out.freed ++ end_frees (request_of p.req.0 s.requests)
-        (conclusion p (request_of p.req.0 s.requests) s.workers) p)
+    (conclusion p (request_of p.req.0 s.requests) s.workers) p)
 
 -- what a Cancel frees: all that is left, unless the request works on
 abbrev pub cancel_frees : Option RequestState → List Obj
@@ -69,7 +69,7 @@ abbrev pub drain_frees : List RequestState → List ObjName → List ObjName
 drain_frees rows [] = []
 drain_frees rows (name ∷ rest) =
     if is_live_object name (request_of name.req.0 rows) then name ∷ drain_frees (freed_by rows name) rest
-        else drain_frees (freed_by rows name) rest
+    else drain_frees (freed_by rows name) rest
 
 -- the objects that an entry makes
 abbrev pub makes : Entry → List ObjName

@@ -74,8 +74,12 @@ is_over q s t = nat_lt t.generation (q.generation s) || is_dead_wake t.wake
 
 -- a turn that is not dead
 abbrev pub live_turn : {S : Type 0} → Quiet S → S → TurnIn → TurnGives S
-live_turn q s t = record { isolate = q.renewed s t.generation; objects = t.objects ++ new_objects t.wake; out =
-    quiet_out (q.reply s) q.steps t.wake }
+live_turn q s t = record {
+  isolate = q.renewed s t.generation;
+  objects = t.objects ++ new_objects t.wake;
+  out =
+      quiet_out (q.reply s) q.steps t.wake;
+}
 
 -- once its generation is over, a turn changes nothing
 abbrev pub dead_turn : {S : Type 0} → S → TurnIn → TurnGives S
@@ -166,18 +170,54 @@ record DoesLittle (w : Wake) (out : Out) : Type 0 where
 
 -- a quiet turn does little, whatever woke it
 does_little : (r : Reply) (n : ℕ) (w : Wake) → DoesLittle w (quiet_out r n w)
-does_little r n (Start request) = record { made = λ started. refl; ops = refl; rises = (omega arith, tt); freed_new =
-    λ obj e. e; freed_wake = λ obj e. e; unused = λ obj e. false≢true e; no_stray = λ req obj e. false≢true e;
-    unreleased = λ req obj e. false≢true e; blameless = refl }
-does_little r n (Done op result) = record { made = λ started. refl; ops = refl; rises = tt; freed_new =
-    λ obj e. absurd (false≢true e); freed_wake = λ obj e. absurd (false≢true e); unused = λ obj e. false≢true e;
-    no_stray = λ req obj e. false≢true e; unreleased = λ req obj e. false≢true e; blameless = refl }
-does_little r n (Cross job) = record { made = λ started. refl; ops = refl; rises = tt; freed_new =
-    λ obj e. absurd (false≢true e); freed_wake = λ obj e. absurd (false≢true e); unused = λ obj e. false≢true e;
-    no_stray = λ req obj e. false≢true e; unreleased = λ req obj e. false≢true e; blameless = refl }
-does_little r n Dead = record { made = λ started. refl; ops = refl; rises = tt; freed_new =
-    λ obj e. absurd (false≢true e); freed_wake = λ obj e. absurd (false≢true e); unused = λ obj e. false≢true e;
-    no_stray = λ req obj e. false≢true e; unreleased = λ req obj e. false≢true e; blameless = refl }
+does_little r n (Start request) = record {
+  made = λ started. refl;
+  ops = refl;
+  rises = (omega arith, tt);
+  freed_new =
+      λ obj e. e;
+  freed_wake = λ obj e. e;
+  unused = λ obj e. false≢true e;
+  no_stray = λ req obj e. false≢true e;
+  unreleased = λ req obj e. false≢true e;
+  blameless = refl;
+}
+does_little r n (Done op result) = record {
+  made = λ started. refl;
+  ops = refl;
+  rises = tt;
+  freed_new =
+      λ obj e. absurd (false≢true e);
+  freed_wake = λ obj e. absurd (false≢true e);
+  unused = λ obj e. false≢true e;
+  no_stray = λ req obj e. false≢true e;
+  unreleased = λ req obj e. false≢true e;
+  blameless = refl;
+}
+does_little r n (Cross job) = record {
+  made = λ started. refl;
+  ops = refl;
+  rises = tt;
+  freed_new =
+      λ obj e. absurd (false≢true e);
+  freed_wake = λ obj e. absurd (false≢true e);
+  unused = λ obj e. false≢true e;
+  no_stray = λ req obj e. false≢true e;
+  unreleased = λ req obj e. false≢true e;
+  blameless = refl;
+}
+does_little r n Dead = record {
+  made = λ started. refl;
+  ops = refl;
+  rises = tt;
+  freed_new =
+      λ obj e. absurd (false≢true e);
+  freed_wake = λ obj e. absurd (false≢true e);
+  unused = λ obj e. false≢true e;
+  no_stray = λ req obj e. false≢true e;
+  unreleased = λ req obj e. false≢true e;
+  blameless = refl;
+}
 
 -- a number that the wake hands out was held, of the turn's own request
 handed : (b c : Bool) (n : ℕ) → c ≡ true → (b || ((n == n) && c)) ≡ true
@@ -189,34 +229,34 @@ live_lawful : {S : Type 0} (q : Quiet S) → IsQuiet q → (s : S) (t : TurnIn)
     → IsTurn (quiet_means q) s t (live_turn q s t)
 live_lawful q is s t = let does : DoesLittle t.wake (quiet_out (q.reply s) q.steps t.wake) =
     does_little (q.reply s) q.steps t.wake in record {
-  made = does.made (started_at (quiet_means q) s t.generation t.req.0)
-      ∙ ap (λ ops. start_objects t.wake ++ count_from (2 + started_at (quiet_means q) s t.generation t.req.0)
-      (length ops)) (sym does.ops);
-  numbered = ap (λ ops. map (λ (o : OpStart). o.op.0) ops) does.ops
-      ∙ ap (λ ops. count_from (started_at (quiet_means q) s t.generation t.req.0) (length ops)) (sym does.ops);
-  counted = λ e. no_zero (nat_lt (q.generation s) t.generation)
-      ∙ ap (λ ops. started_at (quiet_means q) s t.generation t.req.0 + length ops) (sym does.ops);
-  others = λ e req ne. zero_either (nat_lt (q.generation s) t.generation);
-  objects = numbers_push t.objects (new_objects t.wake) ∙ ap (λ ns. object_numbers t.objects ++ ns)
-      (new_numbers (q.reply s) q.steps t.wake);
-  uses = λ h obj e. absurd (does.unused obj e);
-  stray = λ req obj e. absurd (does.no_stray req obj e);
-  rises = does.rises;
-  freed = λ obj e. subst (λ ns. has_number ns obj ≡ true) (sym (numbers_push t.objects (new_objects t.wake)))
-      (has_right (object_numbers t.objects) (object_numbers (new_objects t.wake)) obj (does.freed_new obj e));
-  held = λ c req obj e. absurd (false≢true e);
-  kept = λ c req obj e. absurd (false≢true e);
-  freed_held = λ obj e. handed (has_object (held_at (quiet_means q) s t.generation) t.req.0 obj)
-      (has_number (wake_objects t.wake) obj) t.req.0 (does.freed_wake obj e);
-  released = λ req obj e. absurd (does.unreleased req obj e);
-  released_other = λ req obj e. absurd (does.unreleased req obj e);
-  targets = ap (λ ops. list_all (λ (o : OpStart). list_any (same_name o.target) (targets (q.worker s))) ops) does.ops;
-  within = subst (λ ops. spent ops ≤ t.left) (sym does.ops) (least t.left);
-  generation = is.generation s t.generation;
-  condemned = does.blameless;
-  worker = is.worker s t.generation;
-  workers = is.workers s t.generation;
-}
+      made = does.made (started_at (quiet_means q) s t.generation t.req.0)
+          ∙ ap (λ ops. start_objects t.wake ++ count_from (2 + started_at (quiet_means q) s t.generation t.req.0)
+          (length ops)) (sym does.ops);
+      numbered = ap (λ ops. map (λ (o : OpStart). o.op.0) ops) does.ops
+          ∙ ap (λ ops. count_from (started_at (quiet_means q) s t.generation t.req.0) (length ops)) (sym does.ops);
+      counted = λ e. no_zero (nat_lt (q.generation s) t.generation)
+          ∙ ap (λ ops. started_at (quiet_means q) s t.generation t.req.0 + length ops) (sym does.ops);
+      others = λ e req ne. zero_either (nat_lt (q.generation s) t.generation);
+      objects = numbers_push t.objects (new_objects t.wake) ∙ ap (λ ns. object_numbers t.objects ++ ns)
+          (new_numbers (q.reply s) q.steps t.wake);
+      uses = λ h obj e. absurd (does.unused obj e);
+      stray = λ req obj e. absurd (does.no_stray req obj e);
+      rises = does.rises;
+      freed = λ obj e. subst (λ ns. has_number ns obj ≡ true) (sym (numbers_push t.objects (new_objects t.wake)))
+          (has_right (object_numbers t.objects) (object_numbers (new_objects t.wake)) obj (does.freed_new obj e));
+      held = λ c req obj e. absurd (false≢true e);
+      kept = λ c req obj e. absurd (false≢true e);
+      freed_held = λ obj e. handed (has_object (held_at (quiet_means q) s t.generation) t.req.0 obj)
+          (has_number (wake_objects t.wake) obj) t.req.0 (does.freed_wake obj e);
+      released = λ req obj e. absurd (does.unreleased req obj e);
+      released_other = λ req obj e. absurd (does.unreleased req obj e);
+      targets = ap (λ ops. list_all (λ (o : OpStart). list_any (same_name o.target) (targets (q.worker s))) ops) does.ops;
+      within = subst (λ ops. spent ops ≤ t.left) (sym does.ops) (least t.left);
+      generation = is.generation s t.generation;
+      condemned = does.blameless;
+      worker = is.worker s t.generation;
+      workers = is.workers s t.generation;
+    }
 
 -- a dead turn keeps the laws of dead turns
 dead_lawful : {S : Type 0} (q : Quiet S) (s : S) (t : TurnIn) → IsDeadTurn (quiet_means q) s t (dead_turn s t)
@@ -248,17 +288,28 @@ links_kept q s t false = links_push t.objects t.wake
 unread : {S : Type 0} (q : Quiet S) (s : S) (t : TurnIn) (b : Bool)
     → (if b then dead_turn s (record t { objects = map unlinked t.objects })
     else live_turn q s (record t { objects = map unlinked t.objects }))
-    ≡ record (if b then dead_turn s t else live_turn q s t) { objects =
-    map unlinked (if b then dead_turn s t else live_turn q s t).objects }
+    ≡ record (if b then dead_turn s t else live_turn q s t) {
+      objects =
+          map unlinked (if b then dead_turn s t else live_turn q s t).objects;
+    }
 unread q s t true = refl
-unread q s t false = λ i. record { isolate = q.renewed s t.generation; objects = sym (unlinked_push t.objects t.wake) i;
-    out = quiet_out (q.reply s) q.steps t.wake }
+unread q s t false = λ i. record {
+  isolate = q.renewed s t.generation;
+  objects = sym (unlinked_push t.objects t.wake) i;
+  out = quiet_out (q.reply s) q.steps t.wake;
+}
 
 -- a quiet isolate keeps the laws
 pub quiet_lawful : {S : Type 0} (q : Quiet S) → IsQuiet q → IsLawful (quiet_means q)
 quiet_lawful q is = record {
-  first = λ def names s e. record { worker = is.first_worker def names s e; workers = is.first_workers def names s e;
-      generation = is.first_generation def names s e; condemned = refl; held = refl; started = λ req. refl };
+  first = λ def names s e. record {
+    worker = is.first_worker def names s e;
+    workers = is.first_workers def names s e;
+    generation = is.first_generation def names s e;
+    condemned = refl;
+    held = refl;
+    started = λ req. refl;
+  };
   turns = λ s t reached alive. subst (λ b. IsTurn (quiet_means q) s t (if b then dead_turn s t else live_turn q s t))
       (sym (sym (over_exact q s t) ∙ alive)) (live_lawful q is s t);
   dead = λ s t reached over. subst (λ b. IsDeadTurn (quiet_means q) s t (if b then dead_turn s t else live_turn q s t))

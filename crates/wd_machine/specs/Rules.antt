@@ -1,5 +1,5 @@
 -- The rules by which an entry is allowed, each with the value that a refusal keeps.
-use Rattle.std.specs.Prelude.{ℕ, ◌≡◌, ◌↔◌, ◌==◌, nat_lt, nat_le, Bool, true, false, not, ◌&&◌, ◌||◌, List, [], ◌∷◌}
+use Rattle.std.specs.Prelude.{ℕ, ◌≡◌, ◌↔◌, ◌==◌, nat_lt, nat_le, Bool, true, false, not, ◌&&◌, ◌||◌, List}
 use Rattle.std.specs.Prelude.{length, map, Option, Some, None, is_some, is_none, IsTrue}
 use Rattle.std.specs.List.{find}
 use Rattle.wd_base.specs.declared.config.Config.{Config}
@@ -126,7 +126,7 @@ abbrev pub broken_begin : {I : Type 0} → Option RequestState → Option (Worke
 broken_begin row worker at seat req =
     unless (is_live_on seat row) 9 (Number req)
     (broken_front (waiting (front (waiters_at worker))) (holder_of worker) (run_of (running_in at))
-        (length (due_in at)) req)
+    (length (due_in at)) req)
 
 -- A9 to A13 in a state
 abbrev pub begin_broken : {I : Type 0} → State I → ℕ → ℕ → Option Refused

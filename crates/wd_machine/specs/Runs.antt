@@ -1,5 +1,5 @@
 -- Journals: the state after one, which are legal, and what its entries made and freed.
-use Rattle.std.specs.Prelude.{◌≡◌, ℕ, Bool, true, ◌&&◌, List, [], ◌∷◌, Some, None, is_none, Result, Ok, Err}
+use Rattle.std.specs.Prelude.{◌≡◌, Bool, true, ◌&&◌, List, [], ◌∷◌, Some, None, is_none, Result, Ok, Err}
 use Rattle.wd_base.specs.declared.config.Config.{Config}
 use Rattle.wd_machine.specs.declared.apply.Core.{Core}
 use Rattle.wd_machine.specs.declared.journal.Entry.{Entry}

@@ -277,7 +277,7 @@ abbrev pub RunsFront : {I : Type 0} → Meaning I → WorkerState I → RequestS
 RunsFront m w r [] w' r' ran = (ran ≡ None) × (w' ≡ w) × (r' ≡ r)
 RunsFront m w r (x ∷ rest) w' r' ran =
     (ran ≡ Some (pending_of r.req (is_dead_turn (turn_generation r w) w x.wake)
-        (m.turn w.isolate (turn_in (turn_generation r w) r x.wake))))
+    (m.turn w.isolate (turn_in (turn_generation r w) r x.wake))))
     × (w' ≡ taken_by r.req (m.turn w.isolate (turn_in (turn_generation r w) r x.wake)).isolate rest w)
     × (r' ≡ starts_turn (turn_generation r w) r)
 
@@ -360,7 +360,7 @@ abbrev pub crossed_to : {I : Type 0} → RequestState → JobNo → Option Reque
 crossed_to r job None workers = workers
 crossed_to r job (Some o) workers =
     if lives_beside r o then change (is_worker r.service) (waits_too (record { req = o.req; wake = Cross job })) workers
-        else workers
+    else workers
 
 -- the same for one item of the turn's list
 abbrev pub crossed_by : {I : Type 0} → List RequestState → RequestState → List (WorkerState I) → Req × JobNo

@@ -23,8 +23,8 @@ ghost use Rattle.wd_machine.specs.Steps.{rests, generation_of, entry_out, conclu
 use crate::compare::first_difference;
 use crate::ends::{ends, given_reply, whole_reply};
 use crate::find::{
-    is_live_on, place_for, request_named, request_place, seat_named, seat_place, worker_for, worker_named,
-    worker_place,
+    is_live_on, place_for, request_named, request_place, seat_named, seat_place, worker_for,
+    worker_named, worker_place,
 };
 use crate::isolate::Isolate;
 use crate::journal::Entry;
@@ -581,9 +581,7 @@ impl<I> Machine<I> {
     {
         let alloc = *self.requests.allocator();
         let rows = self.requests.as_slice();
-        arrive_refused(
-            alloc, terms, world, rows, is_duty, req, name, from, allow,
-        )
+        arrive_refused(alloc, terms, world, rows, is_duty, req, name, from, allow)
     }
 
     /// Why the request's turn may not begin on the seat, if it may not.
