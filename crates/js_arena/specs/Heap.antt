@@ -22,6 +22,7 @@ use Rattle.js_arena.specs.Units.{units}
 abbrev pub without_end : List Value → List Value
 without_end items = take (length items - 1) items
 
+-- the item at the end, and None where there is no item
 abbrev pub last_of : List Value → Option Value
 last_of items = slice_get items (length items - 1)
 
@@ -45,6 +46,7 @@ Adds old n done new (Ok x) = (fits old n ≡ true) × done x
 Adds old n done new (Err Full) = (fits old n ≡ false) × (new ≡ old)
 Adds old n done new (Err NoMemory) = new ≡ old
 
+-- the cell under this number, and None where the heap has no such cell
 abbrev pub cell_at : Heap → CellNo → Option Cell
 cell_at h at = slice_get h.cells at.0
 
@@ -52,6 +54,7 @@ cell_at h at = slice_get h.cells at.0
 abbrev pub with_cells : List Cell → ℕ → Heap → Heap
 with_cells more n h = record h { cells = h.cells ++ more; taken = h.taken + n }
 
+-- the heap with one more cell behind its own, for the units of that cell
 abbrev pub with_cell : Cell → Heap → Heap
 with_cell cell h = with_cells (cell ∷ []) (units cell) h
 
@@ -67,26 +70,32 @@ with_other at cell h = record h { cells = slice_set h.cells at.0 cell }
 abbrev pub with_grown : CellNo → Cell → ℕ → Heap → Heap
 with_grown at cell n h = record h { cells = slice_set h.cells at.0 cell; taken = h.taken + n }
 
+-- there is such a cell, and it holds a variable
 abbrev pub is_variable : Option Cell → Bool
 is_variable (Some (Variable v)) = true
 is_variable _ = false
 
+-- there is such a cell, and it holds an object
 abbrev pub is_object : Option Cell → Bool
 is_object (Some (Object props)) = true
 is_object _ = false
 
+-- there is such a cell, and it holds an array
 abbrev pub is_array : Option Cell → Bool
 is_array (Some (Array items)) = true
 is_array _ = false
 
+-- the properties of an object; any other cell has none
 abbrev pub props_of : Option Cell → Properties
 props_of (Some (Object props)) = props
 props_of _ = []
 
+-- the items of an array; any other cell has none
 abbrev pub items_of : Option Cell → List Value
 items_of (Some (Array items)) = items
 items_of _ = []
 
+-- the units of a string that was made at run time; no other cell has any
 abbrev pub text_in : Option Cell → Option (List ℕ)
 text_in (Some (Text t)) = Some t
 text_in _ = None
@@ -115,12 +124,15 @@ pop_at at cells = slice_set cells at (Array (without_end (items_of (slice_get ce
 abbrev pub prop_units : CellNo → List ℕ → Heap → ℕ
 prop_units at key h = put_units key (props_of (cell_at h at))
 
+-- the heap after a write of this key to the object, for the units that the write takes
 abbrev pub with_prop : CellNo → List ℕ → Value → Heap → Heap
 with_prop at key v h = record h { cells = put_at at.0 key v h.cells; taken = h.taken + prop_units at key h }
 
+-- the heap after one more item at the end of the array, for 2 units
 abbrev pub with_item : CellNo → Value → Heap → Heap
 with_item at v h = record h { cells = push_at at.0 v h.cells; taken = h.taken + 2 }
 
+-- the heap after another value took the place of the item at this index; no units are taken
 abbrev pub with_item_at : CellNo → ℕ → Value → Heap → Heap
 with_item_at at i v h = record h { cells = set_at at.0 i v h.cells }
 
@@ -128,6 +140,7 @@ with_item_at at i v h = record h { cells = set_at at.0 i v h.cells }
 abbrev pub without_last : CellNo → Heap → Heap
 without_last at h = record h { cells = pop_at at.0 h.cells }
 
+-- both cells are made by the same variant: a text beside a text, an array beside an array
 abbrev pub same_kind : Option Cell → Cell → Bool
 same_kind (Some (Text t)) (Text u) = true
 same_kind (Some (Variable v)) (Variable w) = true
@@ -169,11 +182,13 @@ text_of (value.Literal k) h = slice_get h.texts k
 text_of (value.Text at) h = text_in (cell_at h at)
 text_of _ h = None
 
+-- both are true, or both are false
 abbrev pub same_bool : Bool → Bool → Bool
 same_bool true b = b
 same_bool false true = false
 same_bool false false = true
 
+-- request, object and event are equal one by one
 abbrev pub same_name : HandleName → HandleName → Bool
 same_name a b = (a.req == b.req) && ((a.obj == b.obj) && same_bool a.event b.event)
 
@@ -189,18 +204,22 @@ with_handle name h = record h { handles = insert_key same_name h.handles name }
 abbrev pub names : Req → Obj → HandleName → Bool
 names req obj name = (name.req == req.0) && ((name.obj == obj.0) || (name.event && (obj.0 == 0)))
 
+-- there is a name, and it is that of the object
 abbrev pub named : Req → Obj → Option HandleName → Bool
 named req obj (Some name) = names req obj name
 named req obj None = false
 
+-- the value is a handle, and what it names is the object
 abbrev pub value_holds : List HandleName → Req → Obj → Value → Bool
 value_holds handles req obj (value.Handle n) = named req obj (slice_get handles n.0)
 value_holds handles req obj _ = false
 
+-- the variable is initialised, and its content is a handle of the object
 abbrev pub variable_holds : List HandleName → Req → Obj → Option Value → Bool
 variable_holds handles req obj (Some v) = value_holds handles req obj v
 variable_holds handles req obj None = false
 
+-- a variable, an object or an array in which a handle of the object stands; no other cell has values
 abbrev pub cell_holds : List HandleName → Req → Obj → Cell → Bool
 cell_holds handles req obj (Text t) = false
 cell_holds handles req obj (Variable v) = variable_holds handles req obj v

@@ -5,6 +5,7 @@ use Rattle.std.specs.Ordering.{nat_cmp}
 use Rattle.std.specs.BTreeMap.{insert_entry}
 use Rattle.js_arena.specs.Props.{Properties}
 
+-- the unit is one of the ten decimal figures, 0x30 to 0x39
 abbrev pub is_digit : ℕ → Bool
 is_digit c = nat_le 48 c && nat_le c 57
 
@@ -31,9 +32,11 @@ abbrev pub placed : Option ℕ → List ℕ → KeyOrder → KeyOrder
 placed (Some i) key order = record order { indexes = insert_entry nat_cmp order.indexes i key }
 placed None key order = record order { names = order.names ++ key ∷ [] }
 
+-- the order after one more key that is not there yet
 abbrev pub with_key : KeyOrder → List ℕ → KeyOrder
 with_key order key = placed (index_of key) key order
 
+-- the keys put in their order one after another, from no key at all
 abbrev pub order_of : List (List ℕ) → KeyOrder
 order_of keys = fold with_key (record { indexes = []; names = [] }) keys
 
@@ -41,5 +44,6 @@ order_of keys = fold with_key (record { indexes = []; names = [] }) keys
 abbrev pub listed : KeyOrder → List (List ℕ)
 listed order = map (λ p. p.1) order.indexes ++ order.names
 
+-- what the object's properties are called, array indexes ascending and then the others as they were made
 abbrev pub own_keys : Properties → List (List ℕ)
 own_keys props = listed (order_of (map (λ p. p.0) props))

@@ -16,6 +16,7 @@ get_prop key props = lookup (bytes_eq key) props
 abbrev pub put_prop : List ℕ → Value → Properties → Properties
 put_prop key value props = insert_entry bytes_eq props key value
 
+-- a value is stored under this key
 abbrev pub has_prop : List ℕ → Properties → Bool
 has_prop key props = is_some (get_prop key props)
 
