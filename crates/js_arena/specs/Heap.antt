@@ -1,6 +1,7 @@
 -- A script's heap, and each change of it.
 use Rattle.std.specs.Prelude.{◌≡◌, ℕ, ◌+◌, ◌-◌, ◌*◌, ◌==◌, ◌&&◌, ◌||◌, Bool, true, false, List, [], ◌∷◌, ◌++◌}
 use Rattle.std.specs.Prelude.{length, map, take, nat_le, replicate, slice_get, slice_set, Option, Some, None, Result, Ok, Err}
+use Rattle.std.specs.Bool.{beq}
 use Rattle.std.specs.List.{list_any, position_or_len}
 use Rattle.indexmap.specs.IndexSet.{insert_key}
 use Rattle.wd_base.specs.declared.ids.Req.{Req}
@@ -182,15 +183,9 @@ text_of (value.Literal k) h = slice_get h.texts k
 text_of (value.Text at) h = text_in (cell_at h at)
 text_of _ h = None
 
--- both are true, or both are false
-abbrev pub same_bool : Bool → Bool → Bool
-same_bool true b = b
-same_bool false true = false
-same_bool false false = true
-
 -- request, object and event are equal one by one
 abbrev pub same_name : HandleName → HandleName → Bool
-same_name a b = (a.req == b.req) && ((a.obj == b.obj) && same_bool a.event b.event)
+same_name a b = (a.req == b.req) && ((a.obj == b.obj) && beq a.event b.event)
 
 -- the number of a name: its own, or the next
 abbrev pub handle_no : HandleName → List HandleName → ℕ
