@@ -40,7 +40,7 @@ all_front test (x ∷ xs) ys all = All-cons (λ b. test b ≡ true) x xs (All-he
 -- a front of bytes that end in a target may become a head
 target_before : (w y : List ℕ) → EndsInTarget (w ++ y) → MayBecomeRequest w
 target_before w y (blank, method, target, tok, pass, e) =
-    let whole : w ++ y ≡ (print_blank blank ++ method) ++ 32 ∷ target = e ∙ sym (append_assoc (print_blank blank) method (32 ∷ target)) in
+    let whole : w ++ y ≡ (print_blank blank ++ method) ++ 32 ∷ target = e in
     elim (fronts w (print_blank blank ++ method) y (32 ∷ target) whole) [
       | inl l ↦ may_cut blank method w l.more tok l.is
       | inr l ↦ inside l.more l.is (append_cancel_left (print_blank blank ++ method) (l.more ++ y) (32 ∷ target) (sym (append_assoc (print_blank blank ++ method) l.more y) ∙ ap (λ z. z ++ y) (sym l.is) ∙ whole))
@@ -57,7 +57,7 @@ target_before w y (blank, method, target, tok, pass, e) =
           more,
           tok,
           all_front is_uri_byte more y (subst (AllPass is_uri_byte) (sym rest) pass),
-          is ∙ append_assoc (print_blank blank) method (b ∷ more) ∙ ap (λ z. print_blank blank ++ (method ++ z ∷ more)) first,
+          is ∙ ap (λ z. (print_blank blank ++ method) ++ z ∷ more) first,
         )
 
 may_less : (w y : List ℕ) → MayBecomeRequest (w ++ y) → MayBecomeRequest w

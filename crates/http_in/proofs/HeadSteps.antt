@@ -1,25 +1,31 @@
 -- What the parser of heads answers, in the words of the stream.
-use Rattle.std.proofs.Common.{◌≡◌, ℕ, zero, suc, ◌+◌, ◌*◌, ◌-◌, ◌<◌, ◌≤◌, ◌⊎◌, inl, inr, Bool, true, false, cond, List, [], ◌∷◌, ◌++◌, length, take, drop, map, refl, sym, ap, ap₂, ◌∙◌, subst, arith, append_assoc, append-nil, length-append, length-map, nat_lt, Option, Some, None, Result, Ok, Err}
-use Rattle.std.specs.Prelude.{codes}
+use Rattle.std.proofs.Common.{◌≡◌, ℕ, zero, suc, ◌+◌, ◌*◌, ◌-◌, ◌<◌, ◌≤◌, ◌⊎◌, inl, inr, Bool, true, false, cond, List, [], ◌∷◌, ◌++◌, length, take, drop, map, refl, sym, ap, ap₂, ◌∙◌, subst, arith, append_assoc, append-nil, length-append, nat_lt, Option, Some, None, Result, Ok, Err}
+use Rattle.std.specs.Prelude.{All, codes}
 use Rattle.std.specs.List.{flat_map}
-use Rattle.std.proofs.lemmas.Bool.{lt-ltb}
-use Rattle.std.proofs.lemmas.List.{take-append-drop, drop-append-le, take_all}
+use Rattle.std.proofs.lemmas.Bool.{lt-ltb, le-ltb}
+use Rattle.std.proofs.lemmas.List.{take-append-drop, drop-append-le, take_all, length-map, length-take-le}
+use Rattle.std.proofs.lemmas.List.Elements.{All-head, All-tail, All-cons, All-nil}
 use Rattle.httparse.specs.Grammar.{lf, print_end, print_blank, print_version, print_field, print_section, RequestHead, print_request, ReadsRequest, HasNoRequest, NeverHasRequest, MayBecomeRequest, EndsInTarget}
-use Rattle.httparse.specs.Spans.{header_bytes, name_and_value, span_bytes, IsRequestAt, RequestOverflows, RequestExceeds}
+use Rattle.httparse.specs.Spans.{header_bytes, name_and_value, span_bytes, IsHeaderWithin, IsRequestWithin, IsRequestAt, IsRequestOf, RequestOverflows, RequestExceeds}
 use Rattle.httparse.specs.declared.spans.HeaderSpan.{HeaderSpan}
 use Rattle.httparse.specs.declared.spans.RequestSpans.{RequestSpans}
 use Rattle.httparse.proofs.GrammarLemmas.{ReadsRequest-append, print_request-append}
+use Rattle.http_message.specs.declared.chunks.ChunkReader.{ChunkReader}
 use Rattle.http_message.specs.declared.extent.Extent.{Extent}
 use Rattle.http_message.specs.declared.extent.Refusal.{Refusal}
 use Rattle.http_message.specs.declared.extent.Refusal.TheVariants as refusal
 use Rattle.http_message.specs.Extents.{extent_of}
-use Rattle.http_message.specs.Fields.{Pairs, values_of}
+use Rattle.http_message.specs.Fields.{Pairs, values_of, closes}
 use Rattle.http_message.specs.Limits.{max_head, max_fields}
+use Rattle.http_message.specs.Steps.{IsReading}
+use Rattle.http_message.proofs.ChunkSteps.{reading_nothing}
 use Rattle.http_message.proofs.TrailerSteps.{fields_long}
+use Rattle.wd_base.specs.declared.http.ReqData.{ReqData}
+use Rattle.http_in.specs.declared.head.HeadSeen.{HeadSeen}
 use Rattle.http_in.specs.declared.head.HeadSeen.TheVariants as head_seen
 use Rattle.http_in.specs.Head.{Asked, ReadsHead, RefusesHead, window, pairs_of, url_by, url_of, asked_by, asked}
-use Rattle.http_in.specs.Steps.{IsHeadPastRoom, BeginsWith}
-use Rattle.http_in.specs.Stream.{RefusesAsked}
+use Rattle.http_in.specs.Steps.{IsHeadPastRoom, BeginsWith, Accepts, IsBegun}
+use Rattle.http_in.specs.Stream.{RefusesAsked, small_names}
 use Rattle.http_in.proofs.HeadLaws.{head_seen as seen_head}
 
 pub past_room : (bytes : List ℕ) → RequestOverflows 64 bytes → IsHeadPastRoom bytes
@@ -69,6 +75,11 @@ taken_first zero xs = omega arith
 taken_first (suc n) [] = omega arith
 taken_first (suc n) (x ∷ xs) = let r = taken_first n xs in omega (arith, r)
 
+taken_of : (n : ℕ) (xs : List ℕ) → length (take n xs) ≤ length xs
+taken_of zero xs = omega arith
+taken_of (suc n) [] = omega arith
+taken_of (suc n) (x ∷ xs) = let r = taken_of n xs in omega (arith, r)
+
 pub head_behind : (bytes : List ℕ) (h : RequestHead) (size : ℕ) → size ≤ length (window bytes) → ReadsRequest (window bytes) h (drop size (window bytes)) → ReadsHead bytes h (drop size bytes)
 head_behind bytes h size within x =
     let all : window bytes ++ drop max_head bytes ≡ bytes = take-append-drop max_head bytes in
@@ -89,3 +100,127 @@ asked_many h many = let e : nat_lt max_fields (length h.fields) ≡ true = lt-lt
 
 pub pairs_are : (bytes : List ℕ) (fields : List HeaderSpan) (r : RequestSpans) (h : RequestHead) → length fields ≡ r.headers → IsRequestAt bytes fields r h → map (header_bytes bytes) fields ≡ pairs_of h
 pairs_are bytes fields r h whole at = ap (map (header_bytes bytes)) (sym (take_all r.headers fields (omega (arith, whole)))) ∙ at.fields
+
+pub url_is : (bytes : List ℕ) (fields : List HeaderSpan) (r : RequestSpans) (h : RequestHead) → length fields ≡ r.headers → IsRequestAt bytes fields r h → url_by (values_of (codes "host") (map (header_bytes bytes) fields)) (span_bytes bytes r.path) ≡ url_of h
+unfolding url_of
+url_is bytes fields r h whole at = ap₂ (λ p t. url_by (values_of (codes "host") p) t) (pairs_are bytes fields r h whole at) at.path
+
+few_fields : (bytes : List ℕ) (fields : List HeaderSpan) (r : RequestSpans) (h : RequestHead) → length fields ≡ r.headers → r.headers ≤ max_fields → IsRequestAt bytes fields r h → length h.fields ≤ max_fields
+few_fields bytes fields r h whole few at =
+    let e : length fields ≡ length h.fields = sym (length-map fields (header_bytes bytes)) ∙ ap length (pairs_are bytes fields r h whole at) ∙ length-map h.fields name_and_value in
+    omega (arith, e, whole, few)
+
+asked_few : (h : RequestHead) → length h.fields ≤ max_fields → asked h ≡ asked_by (url_of h) (extent_of (pairs_of h))
+unfolding asked
+asked_few h few = let e : nat_lt max_fields (length h.fields) ≡ false = le-ltb max_fields (length h.fields) few in rw e refl
+
+-- the parser found a head in the window w, and all its fields
+pub record IsFoundHead (bytes w : List ℕ) (fields : List HeaderSpan) (r : RequestSpans) : Type 0 where
+  pub window_is : w ≡ window bytes
+  pub within : IsRequestWithin w fields r
+  pub whole : length fields ≡ r.headers
+  pub few : r.headers ≤ max_fields
+  pub head : RequestHead
+  pub at : IsRequestAt w fields r head
+
+pub found_head : (bytes w : List ℕ) (fields : List HeaderSpan) (r : RequestSpans) → w ≡ window bytes → IsRequestWithin (window bytes) fields r → length fields ≡ r.headers → r.headers ≤ max_fields → IsRequestOf (window bytes) fields r → IsFoundHead bytes w fields r
+found_head bytes w fields r is within whole few (h, at) = record {
+  window_is = is;
+  within = subst (λ t. IsRequestWithin t fields r) (sym is) within;
+  whole = whole;
+  few = few;
+  head = h;
+  at = subst (λ t. IsRequestAt t fields r h) (sym is) at;
+}
+
+asked_is : (bytes w : List ℕ) (fields : List HeaderSpan) (r : RequestSpans) (f : IsFoundHead bytes w fields r) (url : Option (List ℕ)) (extent : Result Extent Refusal)
+    → url ≡ url_by (values_of (codes "host") (map (header_bytes w) fields)) (span_bytes w r.path) → extent ≡ extent_of (map (header_bytes w) fields) → asked f.head ≡ asked_by url extent
+asked_is bytes w fields r f url extent u e =
+    asked_few f.head (few_fields w fields r f.head f.whole f.few f.at)
+    ∙ ap₂ asked_by (sym (url_is w fields r f.head f.whole f.at) ∙ sym u) (ap extent_of (sym (pairs_are w fields r f.head f.whole f.at)) ∙ sym e)
+
+found_reads : (bytes w : List ℕ) (fields : List HeaderSpan) (r : RequestSpans) (f : IsFoundHead bytes w fields r) → ReadsHead bytes f.head (drop r.len bytes)
+found_reads bytes w fields r f =
+    let fits = f.within.section.len_fits in
+    let same : length w ≡ length (window bytes) = ap length f.window_is in
+    head_behind bytes f.head r.len (omega (arith, fits, same)) (subst (λ t. ReadsRequest t f.head (drop r.len t)) f.window_is f.at.reads)
+
+-- a head that asks for no URL, or for a body that is refused
+pub found_without : (bytes w : List ℕ) (fields : List HeaderSpan) (r : RequestSpans) → IsFoundHead bytes w fields r → None ≡ url_by (values_of (codes "host") (map (header_bytes w) fields)) (span_bytes w r.path) → RefusesAsked bytes refusal.Malformed
+found_without bytes w fields r f u = record { head = f.head; rest = drop r.len bytes; reads = found_reads bytes w fields r f; refuses = asked_is bytes w fields r f None (extent_of (map (header_bytes w) fields)) u refl }
+
+pub found_refused : (bytes w : List ℕ) (fields : List HeaderSpan) (r : RequestSpans) (url : List ℕ) (why : Refusal) → IsFoundHead bytes w fields r
+    → Some url ≡ url_by (values_of (codes "host") (map (header_bytes w) fields)) (span_bytes w r.path) → Err why ≡ extent_of (map (header_bytes w) fields) → RefusesAsked bytes why
+found_refused bytes w fields r url why f u e = record { head = f.head; rest = drop r.len bytes; reads = found_reads bytes w fields r f; refuses = asked_is bytes w fields r f (Some url) (Err why) u e }
+
+-- a head that asks for a request
+pub found_begun : (bytes w : List ℕ) (fields : List HeaderSpan) (r : RequestSpans) (url : List ℕ) (extent : Extent) (request : ReqData) (close : Bool) (reader : ChunkReader) → IsFoundHead bytes w fields r
+    → Some url ≡ url_by (values_of (codes "host") (map (header_bytes w) fields)) (span_bytes w r.path) → Ok extent ≡ extent_of (map (header_bytes w) fields)
+    → request ≡ record { method = span_bytes w r.method; url = url; fields = small_names (map (header_bytes w) fields); body = None }
+    → close ≡ closes r.version (map (header_bytes w) fields) → reader ≡ record { at = 0; body = [] }
+    → IsBegun bytes (record { request = request; close = close; extent = extent; size = r.len; reader = reader })
+found_begun bytes w fields r url extent request close reader f u e made last fresh =
+    let pairs = pairs_are w fields r f.head f.whole f.at in
+    let within = f.within.section.len_fits in
+    let same : length w ≡ length (window bytes) = ap length f.window_is in
+    let fewer = taken_of max_head bytes in
+    record {
+      head = f.head;
+      url = url;
+      within = omega (arith, within, same, fewer);
+      asks = record { reads = found_reads bytes w fields r f; asks = asked_is bytes w fields r f (Some url) (Ok extent) u e };
+      made = made ∙ ap₂ (λ (m : List ℕ) (p : Pairs). let q : ReqData = record { method = m; url = url; fields = small_names p; body = None } in q) f.at.method pairs;
+      close = last ∙ ap₂ closes f.at.version pairs;
+      reading = subst (IsReading (drop r.len bytes)) (sym fresh) (reading_nothing (drop r.len bytes));
+    }
+
+-- every span of the fields lies in the window
+pub found_within : (bytes w : List ℕ) (fields : List HeaderSpan) (r : RequestSpans) → IsFoundHead bytes w fields r → All (IsHeaderWithin (length w)) fields
+found_within bytes w fields r f =
+    let whole = f.whole in
+    subst (All (IsHeaderWithin (length w))) (take_all r.headers fields (omega (arith, whole))) (wider (take r.headers fields) f.within.section.headers_fit)
+  where
+    wider : (hs : List HeaderSpan) → All (IsHeaderWithin r.len) hs → All (IsHeaderWithin (length w)) hs
+    wider [] all = All-nil (IsHeaderWithin (length w))
+    wider (h ∷ hs) all =
+        let here = All-head (IsHeaderWithin r.len) h hs all in
+        let l = f.within.section.len_fits in
+        let name = here.0.1 in
+        let value = here.1.1 in
+        All-cons (IsHeaderWithin (length w)) h hs ((here.0.0, omega (arith, l, name)), (here.1.0, omega (arith, l, value))) (wider hs (All-tail (IsHeaderWithin r.len) h hs all))
+
+-- the fields that the parser wrote are the first ones of its room
+taken_twice : {X : Type 0} (n : ℕ) (xs : List X) → take n (take n xs) ≡ take n xs
+taken_twice zero xs = refl
+taken_twice (suc n) [] = refl
+taken_twice (suc n) (x ∷ xs) = ap (λ t. x ∷ t) (taken_twice n xs)
+
+pub front_within : (bytes : List ℕ) (room : List HeaderSpan) (r : RequestSpans) → IsRequestWithin bytes room r → IsRequestWithin bytes (take r.headers room) r
+front_within bytes room r w =
+    let l = length-take-le r.headers room w.section.count_fits in
+    record {
+      method = w.method;
+      path = w.path;
+      version = w.version;
+      section = record {
+        len_fits = w.section.len_fits;
+        count_fits = omega (arith, l);
+        headers_fit = subst (All (IsHeaderWithin r.len)) (sym (taken_twice r.headers room)) w.section.headers_fit;
+      };
+    }
+
+pub front_found : (bytes : List ℕ) (room : List HeaderSpan) (r : RequestSpans) → IsRequestOf bytes room r → IsRequestOf bytes (take r.headers room) r
+front_found bytes room r (h, at) = (h, record { reads = at.reads; len = at.len; method = at.method; path = at.path; version = at.version; fields = ap (map (header_bytes bytes)) (taken_twice r.headers room) ∙ at.fields })
+
+-- a whole head that is past the room
+pub head_many : (bytes : List ℕ) (room : List HeaderSpan) (r : RequestSpans) → IsHeadPastRoom (window bytes) → IsRequestWithin (window bytes) room r → IsRequestOf (window bytes) room r → RefusesAsked bytes refusal.TooLarge
+head_many bytes room r past w (h, at) = record { head = h; rest = drop r.len bytes; reads = head_behind bytes h r.len w.section.len_fits at.reads; refuses = asked_many h (past h (drop r.len (window bytes)) at.reads) }
+
+-- what is accepted is what the bytes begin with
+pub begins_accepted : (bytes : List ℕ) (seen : HeadSeen) → Accepts bytes seen → BeginsWith bytes seen
+begins_accepted bytes head_seen.Later x = absurd x
+begins_accepted bytes (head_seen.Whole b) x = x
+begins_accepted bytes (head_seen.Refused why) x = inr x
+
+pub window_small : (bytes : List ℕ) → length (window bytes) ≤ max_head
+window_small bytes = taken_first max_head bytes

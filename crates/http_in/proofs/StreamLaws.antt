@@ -35,7 +35,7 @@ asked_unique b h h' w w' r r' x y =
 pub asked_more : (b : List ℕ) (h : RequestHead) (w : Asked) (r more : List ℕ) → ReadsAsked b h w r → ReadsAsked (b ++ more) h w (r ++ more)
 asked_more b h w r more x = record { reads = head_more b h r more x.reads; asks = x.asks }
 
-asked_refused : (b : List ℕ) (h : RequestHead) (w : Asked) (r : List ℕ) (why : Refusal) → ReadsAsked b h w r → RefusesAsked b why → ⊥
+pub asked_refused : (b : List ℕ) (h : RequestHead) (w : Asked) (r : List ℕ) (why : Refusal) → ReadsAsked b h w r → RefusesAsked b why → ⊥
 asked_refused b h w r why x y =
     let u = head_unique b h y.head r y.rest x.reads y.reads in
     ok_err w why (sym x.asks ∙ ap asked u.0 ∙ y.refuses)

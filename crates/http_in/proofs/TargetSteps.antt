@@ -78,7 +78,7 @@ begin_cases b t true e h =
 begin_cases b t false e h = absurd (other_stays t h)
 
 blank_more : (end : LineEnd) (t : List ℕ) → EndsInTarget t → EndsInTarget (print_end end ++ t)
-blank_more end t (blank, method, target, tok, uri, e) = (end ∷ blank, method, target, tok, uri, ap (λ z. print_end end ++ z) e ∙ sym (append_assoc (print_end end) (print_blank blank) (method ++ 32 ∷ target)))
+blank_more end t (blank, method, target, tok, uri, e) = (end ∷ blank, method, target, tok, uri, ap (λ z. print_end end ++ z) e ∙ sym (append_assoc (print_end end) (print_blank blank ++ method) (32 ∷ target)) ∙ ap (λ z. z ++ 32 ∷ target) (sym (append_assoc (print_end end) (print_blank blank) method)))
 
 lf_cases : (b : ℕ) (t : List ℕ) (c : Bool) → (b == 10) ≡ c → (place_after place.Start t ≡ place.Target → EndsInTarget t) → place_after (cond c place.Start (in_method b)) t ≡ place.Target → EndsInTarget (b ∷ t)
 lf_cases b t true e more h = subst (λ z. EndsInTarget (z ∷ t)) (sym (eqb-true b 10 e)) (blank_more lf t (more h))
@@ -123,4 +123,4 @@ after_start (b ∷ m) t tok uri =
     ∙ after_method m t (All-tail (λ v. is_token_byte v ≡ true) b m tok.1) ∙ after_target t uri
 
 pub place_from_ends : (t : List ℕ) → EndsInTarget t → place_after place.Start t ≡ place.Target
-place_from_ends t (blank, method, target, tok, uri, e) = ap (place_after place.Start) e ∙ after_blank blank (method ++ 32 ∷ target) ∙ after_start method target tok uri
+place_from_ends t (blank, method, target, tok, uri, e) = ap (place_after place.Start) (e ∙ append_assoc (print_blank blank) method (32 ∷ target)) ∙ after_blank blank (method ++ 32 ∷ target) ∙ after_start method target tok uri

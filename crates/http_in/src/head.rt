@@ -1,6 +1,6 @@
 ghost use Rattle.std.specs.Prelude.{◌≡◌, ◌≤◌, ◌++◌, length, map, All, IfOk, None, codes};
-ghost use Rattle.httparse.specs.Grammar.{RequestHead, HasNoRequest, MayBecomeRequest, NeverHasRequest};
-ghost use Rattle.httparse.specs.Spans.{header_bytes, span_bytes, IsHeaderWithin, IsWithin, IsRequestWithin, IsRequestAt};
+ghost use Rattle.httparse.specs.Grammar.{HasNoRequest, MayBecomeRequest, NeverHasRequest};
+ghost use Rattle.httparse.specs.Spans.{header_bytes, span_bytes, IsHeaderWithin, IsWithin, IsRequestWithin, IsRequestOf};
 ghost use Rattle.http_message.specs.Fields.{values_of};
 ghost use Rattle.http_message.specs.Limits.{max_fields};
 ghost use Rattle.http_in.specs.Head.{url_by, url_bytes, url_of_bytes, window};
@@ -36,7 +36,7 @@ pub fn read_head(alloc: Global, bytes: &[u8]) -> Result<HeadSeen, NoMemory>
     let window = first_bytes(bytes);
     let mut few = [EMPTY_HEADER_SPAN; MAX_FIELDS];
     match parse_request(window, &mut few) {
-        Ok(Status::Complete(head)) => accept(alloc, window, head, &few[..head.headers]),
+        Ok(Status::Complete(head)) => accept(alloc, bytes, head, &few[..head.headers]),
         Ok(Status::Partial) => Ok(short_of_head(bytes)),
         Err(Error::TooManyHeaders) => read_wide(alloc, bytes),
         Err(_) => Ok(no_head(bytes)),
@@ -83,24 +83,25 @@ fn no_head(bytes: &[u8]) -> HeadSeen
 
 /// What a head asks, which the parser found with no more fields than it may have.
 fn accept(alloc: Global, bytes: &[u8], head: RequestSpans, fields: &[HeaderSpan]) -> Result<HeadSeen, NoMemory>
-    requires within { IsRequestWithin bytes.now fields.now head }
+    requires within { IsRequestWithin (window bytes.now) fields.now head }
     requires whole { length fields.now ≡ head.headers }
     requires few { head.headers ≤ max_fields }
-    requires found { (h : RequestHead) × IsRequestAt bytes.now fields.now head h }
+    requires found { IsRequestOf (window bytes.now) fields.now head }
     ensures { IfOk result (λ found. Accepts bytes.now found) }
 {
-    let url = match url_of(alloc, bytes, head.path, fields)? {
+    let window = first_bytes(bytes);
+    let url = match url_of(alloc, window, head.path, fields)? {
         Some(url) => url,
         None => return Ok(HeadSeen::Refused(Refusal::Malformed)),
     };
-    let extent = match extent_of(bytes, fields) {
+    let extent = match extent_of(window, fields) {
         Ok(extent) => extent,
         Err(why) => return Ok(HeadSeen::Refused(why)),
     };
-    let request = request_of(alloc, head.method.of(bytes), url, bytes, fields)?;
+    let request = request_of(alloc, head.method.of(window), url, window, fields)?;
     Ok(HeadSeen::Whole(Begun {
         request,
-        close: closes(head.version, bytes, fields),
+        close: closes(head.version, window, fields),
         extent,
         size: head.len,
         reader: ChunkReader::new(alloc),
