@@ -7,6 +7,9 @@ use Rattle.std.proofs.lemmas.List.{take-append-drop, drop-append-le, take_all, l
 use Rattle.std.proofs.lemmas.List.Elements.{All-head, All-tail, All-cons, All-nil}
 use Rattle.httparse.specs.Grammar.{lf, print_end, print_blank, print_version, print_field, print_section, RequestHead, print_request, ReadsRequest, HasNoRequest, NeverHasRequest, MayBecomeRequest, EndsInTarget}
 use Rattle.httparse.specs.Spans.{header_bytes, name_and_value, span_bytes, IsHeaderWithin, IsRequestWithin, IsRequestAt, IsRequestOf, RequestOverflows, RequestExceeds}
+use Rattle.httparse.specs.Outcome.{OnInvalid, OnTooManyHeaders}
+use Rattle.httparse.specs.declared.Error.{Error}
+use Rattle.httparse.specs.declared.Status.{Status}
 use Rattle.httparse.specs.declared.spans.HeaderSpan.{HeaderSpan}
 use Rattle.httparse.specs.declared.spans.RequestSpans.{RequestSpans}
 use Rattle.httparse.proofs.GrammarLemmas.{ReadsRequest-append, print_request-append}
@@ -213,14 +216,25 @@ pub front_found : (bytes : List ℕ) (room : List HeaderSpan) (r : RequestSpans)
 front_found bytes room r (h, at) = (h, record { reads = at.reads; len = at.len; method = at.method; path = at.path; version = at.version; fields = ap (map (header_bytes bytes)) (taken_twice r.headers room) ∙ at.fields })
 
 -- a whole head that is past the room
-pub head_many : (bytes : List ℕ) (room : List HeaderSpan) (r : RequestSpans) → IsHeadPastRoom (window bytes) → IsRequestWithin (window bytes) room r → IsRequestOf (window bytes) room r → RefusesAsked bytes refusal.TooLarge
-head_many bytes room r past w (h, at) = record { head = h; rest = drop r.len bytes; reads = head_behind bytes h r.len w.section.len_fits at.reads; refuses = asked_many h (past h (drop r.len (window bytes)) at.reads) }
+pub head_many : (bytes w : List ℕ) (room : List HeaderSpan) (r : RequestSpans) → w ≡ window bytes → IsHeadPastRoom (window bytes) → IsRequestWithin w room r → IsRequestOf w room r → RefusesAsked bytes refusal.TooLarge
+head_many bytes w room r is past within (h, at) =
+    let fits = within.section.len_fits in
+    let same : length w ≡ length (window bytes) = ap length is in
+    let reads : ReadsRequest (window bytes) h (drop r.len (window bytes)) = subst (λ t. ReadsRequest t h (drop r.len t)) is at.reads in
+    record { head = h; rest = drop r.len bytes; reads = head_behind bytes h r.len (omega (arith, fits, same)) reads; refuses = asked_many h (past h (drop r.len (window bytes)) reads) }
+
+pub window_small : (bytes w : List ℕ) → w ≡ window bytes → length w ≤ max_head
+window_small bytes w is =
+    let same : length w ≡ length (window bytes) = ap length is in
+    let t = taken_first max_head bytes in
+    omega (arith, same, t)
+
+-- in room for as many fields as the window can have, an error says that no head comes
+pub wide_never : (bytes w : List ℕ) (e : Error) (room : ℕ) → w ≡ window bytes → room ≡ 5461 → OnInvalid {A = Status RequestSpans} (Err e) (NeverHasRequest w) → OnTooManyHeaders {A = Status RequestSpans} (Err e) (RequestExceeds room w) → NeverHasRequest (window bytes)
+wide_never bytes w e room is size invalid many = subst NeverHasRequest is (invalid (λ t. no_excess w (window_small bytes w is) (subst (λ n. RequestExceeds n w) size (many (ap (λ (x : Error). let z : Result (Status RequestSpans) Error = Err x in z) t)))))
 
 -- what is accepted is what the bytes begin with
 pub begins_accepted : (bytes : List ℕ) (seen : HeadSeen) → Accepts bytes seen → BeginsWith bytes seen
 begins_accepted bytes head_seen.Later x = absurd x
 begins_accepted bytes (head_seen.Whole b) x = x
 begins_accepted bytes (head_seen.Refused why) x = inr x
-
-pub window_small : (bytes : List ℕ) → length (window bytes) ≤ max_head
-window_small bytes = taken_first max_head bytes
