@@ -1,9 +1,8 @@
 -- Bodies are read in one way alone, and what comes behind them changes nothing.
-use Rattle.std.proofs.Common.{◌≡◌, ℕ, ◌<◌, List, [], ◌∷◌, ◌++◌, length, refl, sym, ap, ap₂, ◌∙◌, subst, arith, append_assoc, Option, Some, None}
+use Rattle.std.proofs.Common.{◌≡◌, ℕ, List, [], ◌∷◌, ◌++◌, length, refl, sym, ap, ap₂, ◌∙◌, arith, append_assoc, Option, Some}
 use Rattle.http_message.specs.declared.extent.Extent.{Extent}
 use Rattle.http_message.specs.declared.extent.Extent.TheVariants as extent
 use Rattle.http_message.specs.declared.extent.Refusal.{Refusal}
-use Rattle.http_message.specs.Chunks.{ReadsChunked}
 use Rattle.http_message.proofs.ChunkLaws.{chunked_more, chunked_unique, chunked_refused_more, chunked_refused, chunked_refused_unique}
 use Rattle.http_in.specs.Stream.{ReadsBody, RefusesBody}
 

@@ -1,9 +1,8 @@
 -- Heads are read in one way alone, and what comes behind them changes nothing.
-use Rattle.std.proofs.Common.{◌≡◌, ℕ, ◌+◌, ◌-◌, ◌<◌, ◌≤◌, ◌⊎◌, inl, inr, Bool, true, List, [], ◌∷◌, ◌++◌, length, take, drop, get_or, refl, sym, ap, ap₂, ◌∙◌, subst, arith, append_assoc, append-nil, length-append}
-use Rattle.std.specs.Prelude.{All}
+use Rattle.std.proofs.Common.{◌≡◌, ℕ, ◌+◌, ◌-◌, inl, inr, Bool, true, List, [], ◌∷◌, ◌++◌, length, take, refl, sym, ap, ◌∙◌, subst, arith, append_assoc, append-nil, length-append}
 use Rattle.std.proofs.lemmas.List.{take-append-le, append_cancel_left}
 use Rattle.std.proofs.lemmas.List.Elements.{All-head, All-tail, All-cons, All-nil}
-use Rattle.httparse.specs.Grammar.{LineEnd, lf, print_end, print_blank, print_version, print_section, Field, IsField, AllPass, is_uri_byte, is_token_byte, IsToken, RequestHead, IsRequestHead, print_request, ReadsRequest, HasNoRequest, MayBecomeRequest, EndsInTarget}
+use Rattle.httparse.specs.Grammar.{LineEnd, lf, print_end, print_blank, print_version, print_section, IsField, AllPass, is_uri_byte, is_token_byte, IsToken, RequestHead, print_request, ReadsRequest, HasNoRequest, MayBecomeRequest, EndsInTarget}
 use Rattle.httparse.proofs.GrammarLemmas.{request_unique, ReadsRequest-append, print_request-append}
 use Rattle.httparse.proofs.OpenLemmas.{some_target, letter_is_token}
 use Rattle.http_message.specs.declared.extent.Refusal.{Refusal}

@@ -1,12 +1,12 @@
 -- What the parser of heads answers, in the words of the stream.
-use Rattle.std.proofs.Common.{◌≡◌, ℕ, zero, suc, ◌+◌, ◌*◌, ◌-◌, ◌<◌, ◌≤◌, ◌⊎◌, inl, inr, Bool, true, false, cond, List, [], ◌∷◌, ◌++◌, length, take, drop, map, refl, sym, ap, ap₂, ◌∙◌, subst, arith, append_assoc, append-nil, length-append, nat_lt, Option, Some, None, Result, Ok, Err}
+use Rattle.std.proofs.Common.{◌≡◌, ℕ, zero, suc, ◌+◌, ◌-◌, ◌<◌, ◌≤◌, inl, inr, Bool, true, false, List, [], ◌∷◌, ◌++◌, length, take, drop, map, refl, sym, ap, ap₂, ◌∙◌, subst, arith, append-nil, length-append, nat_lt, Option, Some, None, Result, Ok, Err}
 use Rattle.std.specs.Prelude.{All, codes}
 use Rattle.std.specs.List.{flat_map}
 use Rattle.std.proofs.lemmas.Bool.{lt-ltb, le-ltb}
-use Rattle.std.proofs.lemmas.List.{take-append-drop, drop-append-le, take_all, length-map, length-take-le}
+use Rattle.std.proofs.lemmas.List.{take-append-drop, drop-append-le, take_all, length-map}
 use Rattle.std.proofs.lemmas.List.Elements.{All-head, All-tail, All-cons, All-nil}
 use Rattle.httparse.specs.Grammar.{lf, print_end, print_blank, print_version, print_field, print_section, RequestHead, print_request, ReadsRequest, HasNoRequest, NeverHasRequest, MayBecomeRequest, EndsInTarget}
-use Rattle.httparse.specs.Spans.{header_bytes, name_and_value, span_bytes, IsHeaderWithin, IsRequestWithin, IsRequestAt, IsRequestOf, RequestOverflows, RequestExceeds}
+use Rattle.httparse.specs.Spans.{header_bytes, name_and_value, span_bytes, IsHeaderWithin, IsRequestWithin, IsRequestAt, IsRequestOf, RequestExceeds}
 use Rattle.httparse.specs.Outcome.{OnInvalid, OnTooManyHeaders}
 use Rattle.httparse.specs.declared.Error.{Error}
 use Rattle.httparse.specs.declared.Status.{Status}
@@ -24,15 +24,11 @@ use Rattle.http_message.specs.Steps.{IsReading}
 use Rattle.http_message.proofs.ChunkSteps.{reading_nothing}
 use Rattle.http_message.proofs.TrailerSteps.{fields_long}
 use Rattle.wd_base.specs.declared.http.ReqData.{ReqData}
-use Rattle.http_in.specs.declared.head.HeadSeen.{HeadSeen}
 use Rattle.http_in.specs.declared.head.HeadSeen.TheVariants as head_seen
-use Rattle.http_in.specs.Head.{Asked, ReadsHead, RefusesHead, window, pairs_of, url_by, url_of, asked_by, asked}
-use Rattle.http_in.specs.Steps.{IsHeadPastRoom, BeginsWith, Accepts, IsBegun}
+use Rattle.http_in.specs.Head.{ReadsHead, RefusesHead, window, pairs_of, url_by, url_of, asked_by, asked}
+use Rattle.http_in.specs.Steps.{IsHeadPastRoom, BeginsWith, IsBegun}
 use Rattle.http_in.specs.Stream.{RefusesAsked, small_names}
 use Rattle.http_in.proofs.HeadLaws.{head_seen as seen_head}
-
-pub past_room : (bytes : List ℕ) → RequestOverflows 64 bytes → IsHeadPastRoom bytes
-past_room bytes o h rest x = o [] h rest (subst (λ t. ReadsRequest t h rest) (sym (append-nil bytes)) x)
 
 -- where no head comes, and the bytes end in no target, they are refused
 pub never_head : (bytes : List ℕ) → NeverHasRequest (window bytes) → (EndsInTarget (window bytes) → ⊥) → RefusesHead bytes refusal.Malformed
@@ -192,29 +188,6 @@ found_within bytes w fields r f =
         let value = here.1.1 in
         All-cons (IsHeaderWithin (length w)) h hs ((here.0.0, omega (arith, l, name)), (here.1.0, omega (arith, l, value))) (wider hs (All-tail (IsHeaderWithin r.len) h hs all))
 
--- the fields that the parser wrote are the first ones of its room
-taken_twice : {X : Type 0} (n : ℕ) (xs : List X) → take n (take n xs) ≡ take n xs
-taken_twice zero xs = refl
-taken_twice (suc n) [] = refl
-taken_twice (suc n) (x ∷ xs) = ap (λ t. x ∷ t) (taken_twice n xs)
-
-pub front_within : (bytes : List ℕ) (room : List HeaderSpan) (r : RequestSpans) → IsRequestWithin bytes room r → IsRequestWithin bytes (take r.headers room) r
-front_within bytes room r w =
-    let l = length-take-le r.headers room w.section.count_fits in
-    record {
-      method = w.method;
-      path = w.path;
-      version = w.version;
-      section = record {
-        len_fits = w.section.len_fits;
-        count_fits = omega (arith, l);
-        headers_fit = subst (All (IsHeaderWithin r.len)) (sym (taken_twice r.headers room)) w.section.headers_fit;
-      };
-    }
-
-pub front_found : (bytes : List ℕ) (room : List HeaderSpan) (r : RequestSpans) → IsRequestOf bytes room r → IsRequestOf bytes (take r.headers room) r
-front_found bytes room r (h, at) = (h, record { reads = at.reads; len = at.len; method = at.method; path = at.path; version = at.version; fields = ap (map (header_bytes bytes)) (taken_twice r.headers room) ∙ at.fields })
-
 -- a whole head that is past the room
 pub head_many : (bytes w : List ℕ) (room : List HeaderSpan) (r : RequestSpans) → w ≡ window bytes → IsHeadPastRoom (window bytes) → IsRequestWithin w room r → IsRequestOf w room r → RefusesAsked bytes refusal.TooLarge
 head_many bytes w room r is past within (h, at) =
@@ -223,7 +196,7 @@ head_many bytes w room r is past within (h, at) =
     let reads : ReadsRequest (window bytes) h (drop r.len (window bytes)) = subst (λ t. ReadsRequest t h (drop r.len t)) is at.reads in
     record { head = h; rest = drop r.len bytes; reads = head_behind bytes h r.len (omega (arith, fits, same)) reads; refuses = asked_many h (past h (drop r.len (window bytes)) reads) }
 
-pub window_small : (bytes w : List ℕ) → w ≡ window bytes → length w ≤ max_head
+window_small : (bytes w : List ℕ) → w ≡ window bytes → length w ≤ max_head
 window_small bytes w is =
     let same : length w ≡ length (window bytes) = ap length is in
     let t = taken_first max_head bytes in
@@ -232,9 +205,3 @@ window_small bytes w is =
 -- in room for as many fields as the window can have, an error says that no head comes
 pub wide_never : (bytes w : List ℕ) (e : Error) (room : ℕ) → w ≡ window bytes → room ≡ 5461 → OnInvalid {A = Status RequestSpans} (Err e) (NeverHasRequest w) → OnTooManyHeaders {A = Status RequestSpans} (Err e) (RequestExceeds room w) → NeverHasRequest (window bytes)
 wide_never bytes w e room is size invalid many = subst NeverHasRequest is (invalid (λ t. no_excess w (window_small bytes w is) (subst (λ n. RequestExceeds n w) size (many (ap (λ (x : Error). let z : Result (Status RequestSpans) Error = Err x in z) t)))))
-
--- what is accepted is what the bytes begin with
-pub begins_accepted : (bytes : List ℕ) (seen : HeadSeen) → Accepts bytes seen → BeginsWith bytes seen
-begins_accepted bytes head_seen.Later x = absurd x
-begins_accepted bytes (head_seen.Whole b) x = x
-begins_accepted bytes (head_seen.Refused why) x = inr x
