@@ -1,10 +1,15 @@
 -- A head that was read, and what stands behind it.
-use Rattle.std.proofs.Common.{◌≡◌, ℕ, ◌+◌, ◌<◌, ◌≤◌, List, [], ◌∷◌, ◌++◌, length, take, drop, refl, sym, ap, ◌∙◌, subst, arith, Bool, Option, Some, None, inl, inr, length-append, length-drop}
+use Rattle.std.proofs.Common.{◌≡◌, ℕ, ◌+◌, ◌<◌, ◌≤◌, List, [], ◌∷◌, ◌++◌, length, take, drop, refl, sym, ap, ◌∙◌, subst, arith, Bool, Option, Some, None, inl, inr, length-append, length-drop, length-take-le, take-append-drop, drop-drop}
 use Rattle.std.proofs.lemmas.List.{drop-append-le}
 use Rattle.http_message.specs.declared.extent.Extent.{Extent}
+use Rattle.http_message.specs.declared.extent.Extent.TheVariants as extent
+use Rattle.http_message.specs.declared.chunks.ChunkReader.{ChunkReader}
+use Rattle.http_message.specs.declared.chunks.Chunked.{Chunked}
+use Rattle.http_message.specs.declared.chunks.Chunked.TheVariants as chunked
 use Rattle.http_message.specs.declared.extent.Refusal.{Refusal}
 use Rattle.http_message.proofs.ChunkSteps.{reading_more}
-use Rattle.http_message.specs.Steps.{IsReading}
+use Rattle.http_message.specs.Steps.{IsReading, ShowsChunked}
+use Rattle.http_message.specs.Chunks.{ReadsChunked}
 use Rattle.wd_base.specs.declared.http.ReqData.{ReqData}
 use Rattle.http_in.specs.declared.request.Begun.{Begun}
 use Rattle.http_in.specs.Steps.{IsBegun, MayBegin}
@@ -62,3 +67,45 @@ begun_whole b x body rest y z = record {
 
 pub begun_refused : (b : List ℕ) (x : Begun) (why : Refusal) → IsBegun b x → RefusesBody x.extent (drop x.size b) why → Refuses b why
 begun_refused b x why y z = inr (inr (record { head = y.head; what = (y.url, x.extent); behind = drop x.size b; asks = y.asks; refuses = z }))
+
+-- fewer bytes than a body of this length has
+short_body : (size : ℕ) (bytes : List ℕ) → length bytes < size → (body : Option (List ℕ)) (rest : List ℕ) → ReadsBody (extent.Length size) bytes body rest → ⊥
+short_body size bytes short body rest r =
+    let all = ap length r.3 in
+    let l = length-append r.0 rest in
+    let long = r.2 in
+    omega (arith, short, all, l, long)
+
+-- where a body of a length is not whole, the request is unfinished
+pub counted_later : (b : List ℕ) (x : Begun) (size : ℕ) → IsBegun b x → x.extent ≡ extent.Length size → length (drop x.size b) < size → IsUnfinished b
+counted_later b x size y is short = begun_unfinished b x y
+    (λ body rest r. short_body size (drop x.size b) short body rest (subst (λ e. ReadsBody e (drop x.size b) body rest) is r))
+    (λ why r. subst (λ e. RefusesBody e (drop x.size b) why) is r)
+
+-- what stands behind a head and so many bytes
+behind : (b : List ℕ) (x : Begun) (size : ℕ) → IsBegun b x → size ≤ length (drop x.size b) → x.size + size ≤ length b
+behind b x size y fits = let l = length-drop x.size b in let within = y.within in omega (arith, l, within, fits)
+
+-- a body of a length is whole
+pub counted_whole : (b : List ℕ) (x : Begun) (size : ℕ) (r : ReqData) → IsBegun b x → x.extent ≡ extent.Length size → size ≤ length (drop x.size b) → r ≡ record x.request { body = Some (take size (drop x.size b)) } → (x.size + size ≤ length b) × Reads b r x.close (drop (x.size + size) b)
+counted_whole b x size r y is fits made =
+    let d = drop x.size b in
+    let read : ReadsBody (extent.Length size) d (Some (take size d)) (drop size d) = (take size d, refl, length-take-le size d fits, sym (take-append-drop size d)) in
+    let whole = begun_whole b x (Some (take size d)) (drop size d) y (subst (λ e. ReadsBody e d (Some (take size d)) (drop size d)) (sym is) read) in
+    (behind b x size y fits, subst (λ q. Reads b q x.close (drop (x.size + size) b)) (sym made) (subst (Reads b (record x.request { body = Some (take size d) }) x.close) (drop-drop size x.size b) whole))
+
+-- where neither a body by chunks nor what is refused is there, the request is unfinished, and the chunks that were read stay read
+pub chunked_later : (b : List ℕ) (x : Begun) (reader : ChunkReader) → IsBegun b x → x.extent ≡ extent.Chunked → IsReading (drop x.size b) reader → ShowsChunked (drop x.size b) reader.body chunked.Later → IsUnfinished b × IsBegun b (record x { reader = reader })
+chunked_later b x reader y is reading shown =
+    (begun_unfinished b x y
+      (λ body rest r. let read = subst (λ e. ReadsBody e (drop x.size b) body rest) is r in shown.0 read.0 rest read.2)
+      (λ why r. shown.1 why (subst (λ e. RefusesBody e (drop x.size b) why) is r)),
+    record { head = y.head; url = y.url; within = y.within; asks = y.asks; made = y.made; close = y.close; reading = reading })
+
+-- a body by chunks is whole
+pub chunked_whole : (b : List ℕ) (x : Begun) (text : List ℕ) (size : ℕ) (r : ReqData) → IsBegun b x → x.extent ≡ extent.Chunked → ShowsChunked (drop x.size b) text (chunked.Whole size) → r ≡ record x.request { body = Some text } → (x.size + size ≤ length b) × Reads b r x.close (drop (x.size + size) b)
+chunked_whole b x text size r y is shown made =
+    let d = drop x.size b in
+    let read : ReadsBody extent.Chunked d (Some text) (drop size d) = (text, refl, shown.1) in
+    let whole = begun_whole b x (Some text) (drop size d) y (subst (λ e. ReadsBody e d (Some text) (drop size d)) (sym is) read) in
+    (behind b x size y shown.0, subst (λ q. Reads b q x.close (drop (x.size + size) b)) (sym made) (subst (Reads b (record x.request { body = Some text }) x.close) (drop-drop size x.size b) whole))

@@ -5,3 +5,4 @@ pub mod TargetSteps
 pub mod BegunSteps
 pub mod QueueSteps
 pub mod HeadSteps
+pub mod FeedSteps

@@ -1,0 +1,25 @@
+use Rattle.std.proofs.Common.{rules, ◌≡◌, ◌≤◌, length, drop, IfOk, None, Some, ℕ, ◌+◌, ◌-◌, ◌*◌, ◌<◌, ◌/◌, ◌%◌, Bool, true, false, nat_eq, nat_lt, List, [], ◌∷◌, ◌++◌, slice_index_or, slice_set, bit_and, bit_or, Fits, w8, w32, w64, Bor, MutBor}
+use Rattle.http_message.specs.declared.extent.Extent.TheVariants as extents
+use Rattle.http_in.specs.Steps.{IsBegun, MayBegin, Sees}
+use Rattle.std.proofs.Common.{arith, ap, take, ◌∙◌, drop-drop}
+use Rattle.std.proofs.lemmas.List.{take_rest}
+use Rattle.http_in.proofs.BegunSteps.{counted_later, counted_whole}
+use Rattle.http_in.proofs.request.read_counted.Goals as goal
+
+pub returns-then-rest-size : goal.returns-then-rest-size
+returns-then-rest-size c =
+    let bytes = c.args.bytes.now in
+    let begun = c.args.begun in
+    let rest = ap length (take_rest bytes begun.size) in
+    let short = c.if-rest-size.true in
+    (counted_later bytes begun c.args.size c.requires.begun c.requires.counted (omega (arith, rest, short)), c.requires.begun)
+
+pub returns : goal.returns
+returns c =
+    let bytes = c.args.bytes.now in
+    let begun = c.args.begun in
+    let rest = take_rest bytes begun.size in
+    let long = ap length rest in
+    let fits = c.if-rest-size.false in
+    counted_whole bytes begun c.args.size c.with_body.result c.requires.begun c.requires.counted (omega (arith, long, fits))
+    (c.with_body.ensures ∙ ap (λ body. record begun.request { body = Some body }) (c.in_ok-body.ensures ∙ ap (take c.args.size) rest))
