@@ -82,8 +82,7 @@ head_seen b h r x none = none h (take (max_head - length (print_request h)) r) (
 
 pub refused_head_more : (b more : List ℕ) (why : Refusal) → RefusesHead b why → RefusesHead (b ++ more) why
 refused_head_more b more refusal.Malformed (none, may) =
-    let g = grown max_head b more in
-    (
+    let g = grown max_head b more in (
       subst HasNoRequest (sym g.is) (none_more (window b) g.behind none may),
       λ m. may (may_less (window b) g.behind (subst MayBecomeRequest g.is m)),
     )

@@ -49,11 +49,13 @@ fn read_wide(alloc: Global, bytes: &[u8]) -> Result<HeadSeen, NoMemory>
     ensures { IfOk result (λ found. BeginsWith bytes.now found) }
 {
     let mut many = room(alloc)?;
-    Ok(match parse_request(first_bytes(bytes), many.as_mut_slice()) {
-        Ok(Status::Complete(_)) => HeadSeen::Refused(Refusal::TooLarge),
-        Ok(Status::Partial) => short_of_head(bytes),
-        Err(_) => no_head(bytes),
-    })
+    Ok(
+        match parse_request(first_bytes(bytes), many.as_mut_slice()) {
+            Ok(Status::Complete(_)) => HeadSeen::Refused(Refusal::TooLarge),
+            Ok(Status::Partial) => short_of_head(bytes),
+            Err(_) => no_head(bytes),
+        },
+    )
 }
 
 /// What bytes show whose first ones begin a head and hold no whole one.
@@ -82,7 +84,12 @@ fn no_head(bytes: &[u8]) -> HeadSeen
 }
 
 /// What a head asks, which the parser found with no more fields than it may have.
-fn accept(alloc: Global, bytes: &[u8], head: RequestSpans, fields: &[HeaderSpan]) -> Result<HeadSeen, NoMemory>
+fn accept(
+    alloc: Global,
+    bytes: &[u8],
+    head: RequestSpans,
+    fields: &[HeaderSpan],
+) -> Result<HeadSeen, NoMemory>
     requires within { IsRequestWithin (window bytes.now) fields.now head }
     requires whole { length fields.now ≡ head.headers }
     requires few { head.headers ≤ max_fields }
@@ -109,7 +116,12 @@ fn accept(alloc: Global, bytes: &[u8], head: RequestSpans, fields: &[HeaderSpan]
 }
 
 /// The text of the URL of a head with this target and these fields, where there is one.
-fn url_of(alloc: Global, bytes: &[u8], target: Span, fields: &[HeaderSpan]) -> Result<Option<Bytes>, NoMemory>
+fn url_of(
+    alloc: Global,
+    bytes: &[u8],
+    target: Span,
+    fields: &[HeaderSpan],
+) -> Result<Option<Bytes>, NoMemory>
     requires within { All (IsHeaderWithin (length bytes.now)) fields.now }
     requires target { IsWithin (length bytes.now) target }
     ensures { IfOk result (λ url. url ≡ url_by (values_of (codes "host") (map (header_bytes bytes.now) fields.now))
@@ -145,10 +157,20 @@ fn joined(alloc: Global, host: &[u8], target: &[u8]) -> Result<Vec<u8>, NoMemory
 }
 
 /// A request without a body.
-fn request_of(alloc: Global, method: &[u8], url: Bytes, bytes: &[u8], fields: &[HeaderSpan]) -> Result<ReqData, NoMemory>
+fn request_of(
+    alloc: Global,
+    method: &[u8],
+    url: Bytes,
+    bytes: &[u8],
+    fields: &[HeaderSpan],
+) -> Result<ReqData, NoMemory>
     requires { All (IsHeaderWithin (length bytes.now)) fields.now }
-    ensures { IfOk result (λ r. r ≡ record { method = method.now; url = url;
-        fields = small_names (map (header_bytes bytes.now) fields.now); body = None }) }
+    ensures { IfOk result (λ r. r ≡ record {
+      method = method.now;
+      url = url;
+      fields = small_names (map (header_bytes bytes.now) fields.now);
+      body = None;
+    }) }
 {
     let method = Seq::copy(alloc, method)?;
     let fields = fields_of(alloc, bytes, fields)?;
