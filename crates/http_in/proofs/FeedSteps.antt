@@ -8,4 +8,4 @@ use Rattle.http_in.specs.declared.conn.Phase.TheVariants as phase
 
 -- the bytes of an open link are refused with the status of why they are
 pub feeds_bad : (old new : Link) (piece : List ℕ) (code : ℕ) (why : Refusal) → old.phase ≡ phase.Open → new.phase ≡ phase.Bad code → new.queue ≡ old.queue ++ piece → code ≡ status_of why → Refuses (old.queue ++ piece) why → Feeds old piece (fed.Bad code) new
-feeds_bad old new piece code why open bad queue status refuses = subst (λ p. FeedsAt p old piece (fed.Bad code) new) (sym open) (bad, queue, (why, status, refuses))
+feeds_bad old new piece code why is_open bad queue status refuses = subst (λ p. FeedsAt p old piece (fed.Bad code) new) (sym is_open) (bad, queue, (why, status, refuses))
