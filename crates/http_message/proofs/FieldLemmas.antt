@@ -177,3 +177,6 @@ number_more v w n d e (inr over) h = absurd (omega arith)
 pub number_over : (v w n d : ℕ) → w ≡ v * 10 + d → IsNumberUpTo max_body v n → max_body < n → IsNumberUpTo max_body w n
 number_over v w n d e (inl is) h = inr (h, omega arith)
 number_over v w n d e (inr over) h = inr (h, omega arith)
+
+pub digit_low : (d : ℕ) → is_ascii_digit d ≡ true → d - 48 ≤ 9
+digit_low d e = grind (arith, nat_tests)

@@ -1,8 +1,8 @@
 -- What the parser of fields answers, in the words of a trailer.
-use Rattle.std.proofs.Common.{◌≡◌, ℕ, zero, suc, ◌+◌, ◌*◌, ◌-◌, ◌<◌, ◌≤◌, ◌⊎◌, inl, inr, List, [], ◌∷◌, ◌++◌, length, take, drop, map, refl, sym, ap, ◌∙◌, subst, arith, append_assoc, append-nil, length-append, length-map}
+use Rattle.std.proofs.Common.{◌≡◌, ℕ, zero, suc, ◌+◌, ◌*◌, ◌-◌, ◌<◌, ◌≤◌, ◌⊎◌, inl, inr, List, [], ◌∷◌, ◌++◌, length, take, drop, map, refl, sym, ap, ◌∙◌, subst, arith, append_assoc, append-nil, length-append}
 use Rattle.std.specs.Prelude.{All}
 use Rattle.std.specs.List.{flat_map}
-use Rattle.std.proofs.lemmas.List.{take-append-drop, drop-append-le}
+use Rattle.std.proofs.lemmas.List.{take-append-drop, drop-append-le, length-map}
 use Rattle.std.proofs.lemmas.List.Elements.{All-head, All-tail}
 use Rattle.httparse.specs.Grammar.{Field, IsField, LineEnd, crlf, lf, print_end, print_field, print_section, ReadsSection, HasNoSection, NeverHasSection, MayBecomeSection}
 use Rattle.httparse.specs.Spans.{header_bytes, name_and_value, IsSectionWithin, IsSectionAt, IsSectionOf, SectionOverflows, SectionExceeds}
@@ -63,9 +63,9 @@ fields_long (f ∷ fs) all =
     let some = here.name.0 in
     let rest = fields_long fs (All-tail IsField f fs all) in
     let ends = end_long f.end in
-    let e = length-append (print_field f) (flat_map print_field fs) in
-    let n = length-append f.name (58 ∷ (f.raw ++ print_end f.end)) in
-    let r = length-append f.raw (print_end f.end) in
+    let e : length (flat_map print_field (f ∷ fs)) ≡ length (print_field f) + length (flat_map print_field fs) = length-append (print_field f) (flat_map print_field fs) in
+    let n : length (print_field f) ≡ length f.name + length (58 ∷ (f.raw ++ print_end f.end)) = length-append f.name (58 ∷ (f.raw ++ print_end f.end)) in
+    let r : length (58 ∷ (f.raw ++ print_end f.end)) ≡ suc (length f.raw + length (print_end f.end)) = ap suc (length-append f.raw (print_end f.end)) in
     omega (arith, some, rest, ends, e, n, r)
   where
     end_long : (e : LineEnd) → 1 ≤ length (print_end e)
