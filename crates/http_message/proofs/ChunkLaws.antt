@@ -21,7 +21,7 @@ size_unique b n m r q x y =
 pub size_more : (b : List ℕ) (n : ℕ) (r more : List ℕ) → ReadsSize b n r → ReadsSize (b ++ more) n (r ++ more)
 size_more b n r more x = record { line = x.line; reads = ReadsChunkLine-append b x.line r more x.reads; is = x.is }
 
-never_size : (b : List ℕ) (n : ℕ) (r : List ℕ) → NeverHasChunkLine b → ReadsSize b n r → ⊥
+pub never_size : (b : List ℕ) (n : ℕ) (r : List ℕ) → NeverHasChunkLine b → ReadsSize b n r → ⊥
 never_size b n r never x = never [] x.line r (subst (λ t. ReadsChunkLine t x.line r) (sym (append-nil b)) x.reads)
 
 never_more : (b more : List ℕ) → NeverHasChunkLine b → NeverHasChunkLine (b ++ more)
