@@ -1,13 +1,16 @@
 -- A reader of chunks goes on, and what it finds is what the bytes show.
 use Rattle.std.proofs.Common.{◌≡◌, ℕ, zero, suc, ◌+◌, ◌-◌, ◌<◌, ◌≤◌, ◌⊎◌, inl, inr, List, [], ◌∷◌, ◌++◌, length, take, drop, get_or, slice_range, refl, sym, ap, ap₂, ◌∙◌, subst, arith, append_assoc, append-nil, length-append, length-drop, drop-drop}
 use Rattle.std.specs.List.{concat}
-use Rattle.std.proofs.lemmas.List.{drop-append-le, length-take-le, take-append-drop}
+use Rattle.std.proofs.lemmas.List.{drop-append-le, length-take-le, take-append-drop, take_all}
 use Rattle.httparse.specs.Ascii.{crlf_bytes}
 use Rattle.http_message.specs.declared.extent.Refusal.{Refusal}
 use Rattle.http_message.specs.declared.extent.Refusal.TheVariants as refusal
 use Rattle.http_message.specs.declared.chunks.ChunkReader.{ChunkReader}
 use Rattle.http_message.specs.declared.chunks.End.TheVariants as end_at
+use Rattle.http_message.specs.declared.chunks.End.{End}
+use Rattle.http_message.specs.declared.chunks.Next.{Next}
 use Rattle.http_message.specs.declared.chunks.Next.TheVariants as next
+use Rattle.http_message.specs.declared.trailer.Trailer.{Trailer}
 use Rattle.http_message.specs.declared.trailer.Trailer.TheVariants as trailer
 use Rattle.http_message.specs.Limits.{max_body}
 use Rattle.http_message.specs.Chunks.{ReadsSize, ReadsChunk, ReadsChunks, ReadsParts, ReadsLast, ReadsChunked, RefusesNext, RefusesChunked, NeverEnds, IsUnfinished, HasBadTrailer, ReadsTrailer, RefusesTrailer}
@@ -80,6 +83,42 @@ refused b reader why (h, x) r = record { body = reader.body; behind = drop reade
 pub whole : (b : List ℕ) (reader : ChunkReader) (rest : List ℕ) → IsReading b reader → ReadsLast (drop reader.at b) rest → ReadsChunked b reader.body rest
 whole b reader rest (h, x) l = record { behind = drop reader.at b; parts = x; last = l }
 
+-- ---- what stands behind a place
+
+abbrev pub behind : List ℕ → ℕ → List ℕ
+behind b i = slice_range b i (length b)
+
+behind_is : (b : List ℕ) (i : ℕ) → behind b i ≡ drop i b
+behind_is b i = take_all (length b - i) (drop i b) (omega (arith, length-drop i b))
+
+pub next_seen : (n m : ℕ) (b : List ℕ) (i : ℕ) (x y : Next) → n ≡ m → x ≡ y → ShowsNext n (behind b i) x → ShowsNext m (drop i b) y
+next_seen n m b i x y e f s = subst (λ k. ShowsNext k (drop i b) y) e (subst (λ t. ShowsNext n t y) (behind_is b i) (subst (ShowsNext n (behind b i)) f s))
+
+pub trailer_seen : (b : List ℕ) (i : ℕ) (x y : Trailer) → x ≡ y → ShowsTrailer (behind b i) x → ShowsTrailer (drop i b) y
+trailer_seen b i x y e s = subst (λ t. ShowsTrailer t y) (behind_is b i) (subst (ShowsTrailer (behind b i)) e s)
+
+pub end_seen : (b : List ℕ) (i k : ℕ) (x y : End) → x ≡ y → ShowsEnd (behind (behind b i) k) x → ShowsEnd (drop k (drop i b)) y
+end_seen b i k x y e s =
+    let t : ShowsEnd (drop k (behind b i)) y = subst (λ t. ShowsEnd t y) (behind_is (behind b i) k) (subst (ShowsEnd (behind (behind b i) k)) e s) in
+    subst (λ t. ShowsEnd (drop k t) y) (behind_is b i) t
+
+pub behind_short : (b : List ℕ) (i k : ℕ) → length (behind b i) < k → length (drop i b) < k
+behind_short b i k h = subst (λ t. length t < k) (behind_is b i) h
+
+pub behind_long : (b : List ℕ) (i k : ℕ) → k ≤ length (behind b i) → k ≤ length (drop i b)
+behind_long b i k h = subst (λ t. k ≤ length t) (behind_is b i) h
+
+-- a reader goes on behind a chunk
+pub reading_on : (b : List ℕ) (at start end : ℕ) (body grown : List ℕ) → IsReading b (record { at = at; body = body }) → ShowsNext (length body) (drop at b) (next.Chunk start end)
+    → grown ≡ body ++ slice_range b (at + start) (at + end) → IsReading b (record { at = at + (end + 2); body = grown })
+reading_on b at start end body grown reading (ordered, within, fits, chunk) e =
+    let rest = drop at b in
+    let size : length (slice_range rest start end) ≡ end - start = length-take-le (end - start) (drop start rest) (omega (arith, ordered, within, length-drop start rest)) in
+    let k : (at + end) - (at + start) ≡ end - start = omega arith in
+    let d : drop (at + start) b ≡ drop start rest = sym (drop-drop start at b) in
+    let w : grown ≡ body ++ slice_range rest start end = e ∙ ap (λ t. body ++ t) (ap₂ (λ m t. take m t) k d) in
+    subst (λ t. IsReading b (record { at = at + (end + 2); body = t })) (sym w) (reading_chunk b at start end body reading within fits size chunk)
+
 -- ---- the end of a chunk
 
 pub later_empty : (b : List ℕ) → length b ≡ 0 → ShowsEnd b end_at.Later
@@ -145,7 +184,7 @@ chunk_stands n b line size some fits within x there e =
     let k : (line + size) - line ≡ size = omega arith in
     let p : part ≡ take size rest = ap (λ m. take m rest) k in
     let l : length part ≡ size = ap length p ∙ length-take-le size rest there in
-    let m : (size + 2) + line ≡ line + size + 2 = omega arith in
+    let m : line + (size + 2) ≡ line + size + 2 = omega arith in
     let d : drop 2 (drop size rest) ≡ drop (line + size + 2) b = drop-drop 2 size rest ∙ drop-drop (size + 2) line b ∙ ap (λ z. drop z b) m in
     let w : rest ≡ part ++ (crlf_bytes ++ drop (line + size + 2) b) = sym (take-append-drop size rest) ∙ ap₂ (λ f t. f ++ t) (sym p) (e ∙ ap (λ t. crlf_bytes ++ t) d) in
     let y : ReadsSize b size (part ++ (crlf_bytes ++ drop (line + size + 2) b)) = subst (ReadsSize b size) w x in
