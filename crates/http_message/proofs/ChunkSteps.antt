@@ -163,8 +163,8 @@ nothing_yet n b size rest some fits x short ends = record {
 pub nothing_short : (n : ℕ) (b : List ℕ) (size : ℕ) (rest : List ℕ) → 0 < size → n + size ≤ max_body → ReadsSize b size rest → length rest < size → ShowsNothing n b
 nothing_short n b size rest some fits x short =
     nothing_yet n b size rest some fits x (omega (arith, short)) (λ part tail e l bad.
-        let k : length rest ≡ length part + length tail = ap length e ∙ length-append part tail in
-        omega (arith, k, l, short))
+    let k : length rest ≡ length part + length tail = ap length e ∙ length-append part tail in
+    omega (arith, k, l, short))
 
 -- the data, and less than CR LF
 pub nothing_late : (n : ℕ) (b : List ℕ) (size : ℕ) (rest : List ℕ) → 0 < size → n + size ≤ max_body → ReadsSize b size rest → size ≤ length rest
@@ -172,8 +172,8 @@ pub nothing_late : (n : ℕ) (b : List ℕ) (size : ℕ) (rest : List ℕ) → 0
 nothing_late n b size rest some fits x there (low, may) =
     let d = length-drop size rest in
     nothing_yet n b size rest some fits x (omega (arith, there, low, d)) (λ part tail e l bad.
-        let t : drop size rest ≡ tail = ap₂ (λ k r. drop k r) (sym l) e ∙ drop_part part tail in
-        bad may.more may.rest (ap (λ r. r ++ may.more) (sym t) ∙ may.is))
+    let t : drop size rest ≡ tail = ap₂ (λ k r. drop k r) (sym l) e ∙ drop_part part tail in
+    bad may.more may.rest (ap (λ r. r ++ may.more) (sym t) ∙ may.is))
 
 -- the data and CR LF
 pub chunk_stands : (n : ℕ) (b : List ℕ) (line size : ℕ) → 0 < size → n + size ≤ max_body → line ≤ length b → ReadsSize b size (drop line b) → size ≤ length (drop line b)
@@ -190,8 +190,7 @@ chunk_stands n b line size some fits within x there e =
     let y : ReadsSize b size (part ++ (crlf_bytes ++ drop (line + size + 2) b)) = subst (ReadsSize b size) w x in
     let long : length rest ≡ length part + length (crlf_bytes ++ drop (line + size + 2) b) = ap length w ∙ length-append part (crlf_bytes ++ drop (line + size + 2) b) in
     let two = length-append crlf_bytes (drop (line + size + 2) b) in
-    let behind = length-drop line b in
-    (
+    let behind = length-drop line b in (
       omega (arith, some),
       omega (arith, long, two, behind, l, within),
       omega (arith, fits),
@@ -227,6 +226,7 @@ last_later n b rest fits x (none, unrefused) = record {
   where
     bad_trailer : (why : Refusal) → HasBadTrailer b why → ⊥
     bad_trailer why h = let u = size_unique b 0 0 rest h.rest x h.reads in unrefused why (subst (λ t. RefusesTrailer t why) (sym u.1) h.refuses)
+
     refused_yet : (why : Refusal) → RefusesNext n b why → ⊥
     refused_yet refusal.Malformed (inl never) = never_size b 0 rest never x
     refused_yet refusal.Malformed (inr (inl h)) =

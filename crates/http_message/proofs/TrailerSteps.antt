@@ -1,10 +1,10 @@
 -- What the parser of fields answers, in the words of a trailer.
-use Rattle.std.proofs.Common.{◌≡◌, ℕ, zero, suc, ◌+◌, ◌*◌, ◌-◌, ◌<◌, ◌≤◌, ◌⊎◌, inl, inr, List, [], ◌∷◌, ◌++◌, length, take, drop, map, refl, sym, ap, ◌∙◌, subst, arith, append_assoc, append-nil, length-append}
+use Rattle.std.proofs.Common.{◌≡◌, ℕ, zero, suc, ◌+◌, ◌*◌, ◌-◌, ◌<◌, ◌≤◌, inl, inr, List, [], ◌∷◌, ◌++◌, length, take, drop, sym, ap, ◌∙◌, subst, arith, append-nil, length-append}
 use Rattle.std.specs.Prelude.{All}
 use Rattle.std.specs.List.{flat_map}
 use Rattle.std.proofs.lemmas.List.{take-append-drop, drop-append-le, length-map}
 use Rattle.std.proofs.lemmas.List.Elements.{All-head, All-tail}
-use Rattle.httparse.specs.Grammar.{Field, IsField, LineEnd, crlf, lf, print_end, print_field, print_section, ReadsSection, HasNoSection, NeverHasSection, MayBecomeSection}
+use Rattle.httparse.specs.Grammar.{Field, IsField, LineEnd, crlf, lf, print_end, print_field, print_section, ReadsSection, HasNoSection, NeverHasSection}
 use Rattle.httparse.specs.Spans.{header_bytes, name_and_value, IsSectionWithin, IsSectionAt, IsSectionOf, SectionOverflows, SectionExceeds}
 use Rattle.httparse.specs.declared.spans.HeaderSpan.{HeaderSpan}
 use Rattle.httparse.proofs.GrammarLemmas.{ReadsSection-append}
@@ -13,8 +13,8 @@ use Rattle.http_message.specs.declared.extent.Refusal.TheVariants as refusal
 use Rattle.http_message.specs.declared.trailer.Section.{Section}
 use Rattle.http_message.specs.declared.trailer.Section.TheVariants as section
 use Rattle.http_message.specs.declared.trailer.Trailer.TheVariants as trailer
-use Rattle.http_message.specs.Chunks.{ReadsFields, ReadsTrailer, RefusesTrailer}
-use Rattle.http_message.specs.Limits.{max_head, max_fields}
+use Rattle.http_message.specs.Chunks.{ReadsFields, RefusesTrailer}
+use Rattle.http_message.specs.Limits.{max_head}
 use Rattle.http_message.specs.Steps.{ShowsTrailer}
 use Rattle.http_message.specs.Trailers.{HasSection, IsPastRoom, IsSectionIn}
 use Rattle.http_message.proofs.TrailerLaws.{front_fits}

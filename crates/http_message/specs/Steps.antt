@@ -1,5 +1,5 @@
 -- What the steps through a body by chunks find.
-use Rattle.std.specs.Prelude.{◌≡◌, ℕ, ◌+◌, ◌<◌, ◌≤◌, ◌-◌, List, ◌++◌, length, take, drop, slice_range}
+use Rattle.std.specs.Prelude.{◌≡◌, ℕ, ◌+◌, ◌<◌, ◌≤◌, ◌-◌, List, ◌++◌, length, drop, slice_range}
 use Rattle.httparse.specs.Ascii.{crlf_bytes}
 use Rattle.http_message.specs.declared.extent.Refusal.{Refusal}
 use Rattle.http_message.specs.declared.chunks.ChunkReader.{ChunkReader}

@@ -136,7 +136,11 @@ fn end_of(bytes: &[u8]) -> End
     if bytes.len() == 1 {
         return End::Later;
     }
-    if bytes[1] == b'\n' { End::Stands } else { End::Never }
+    if bytes[1] == b'\n' {
+        End::Stands
+    } else {
+        End::Never
+    }
 }
 
 /// Reads a trailer behind a last chunk line that ends at this place.
