@@ -1,9 +1,9 @@
 -- Bodies by chunks are read in one way alone, and what comes behind them changes nothing.
-use Rattle.std.proofs.Common.{◌≡◌, ◌≢◌, ℕ, ◌+◌, ◌-◌, ◌<◌, ◌≤◌, ◌⊎◌, inl, inr, List, [], ◌∷◌, ◌++◌, length, take, drop, refl, sym, ap, ap₂, ◌∙◌, subst, arith, append_assoc, append-nil, length-append}
+use Rattle.std.proofs.Common.{◌≡◌, ℕ, ◌+◌, ◌<◌, ◌≤◌, inl, inr, List, [], ◌∷◌, ◌++◌, length, refl, sym, ap, ap₂, ◌∙◌, subst, arith, append_assoc, append-nil, length-append}
 use Rattle.std.specs.List.{concat}
 use Rattle.std.proofs.lemmas.List.{append_cancel_left}
 use Rattle.httparse.specs.Ascii.{crlf_bytes}
-use Rattle.httparse.specs.Grammar.{ChunkLine, chunk_size, ReadsChunkLine, NeverHasChunkLine}
+use Rattle.httparse.specs.Grammar.{chunk_size, ReadsChunkLine, NeverHasChunkLine}
 use Rattle.httparse.proofs.ChunkLemmas.{chunk_line_unique, ReadsChunkLine-append}
 use Rattle.http_message.specs.declared.extent.Refusal.{Refusal}
 use Rattle.http_message.specs.declared.extent.Refusal.TheVariants as refusal
@@ -21,7 +21,7 @@ size_unique b n m r q x y =
 pub size_more : (b : List ℕ) (n : ℕ) (r more : List ℕ) → ReadsSize b n r → ReadsSize (b ++ more) n (r ++ more)
 size_more b n r more x = record { line = x.line; reads = ReadsChunkLine-append b x.line r more x.reads; is = x.is }
 
-never_size : (b : List ℕ) (n : ℕ) (r : List ℕ) → NeverHasChunkLine b → ReadsSize b n r → ⊥
+pub never_size : (b : List ℕ) (n : ℕ) (r : List ℕ) → NeverHasChunkLine b → ReadsSize b n r → ⊥
 never_size b n r never x = never [] x.line r (subst (λ t. ReadsChunkLine t x.line r) (sym (append-nil b)) x.reads)
 
 never_more : (b more : List ℕ) → NeverHasChunkLine b → NeverHasChunkLine (b ++ more)

@@ -1,11 +1,10 @@
 -- The fields of one name, the parts of a value, and numbers.
 use Rattle.std.proofs.Common.{◌≡◌, ◌≢◌, ◌⊎◌, ℕ, zero, suc, ◌+◌, ◌*◌, ◌-◌, ◌<◌, ◌≤◌, ◌==◌, Bool, true, false, ◌||◌, ◌&&◌, not, cond, List, [], ◌∷◌, ◌++◌, length, take, drop, get_or, slice_range, map, refl, ap, sym, ◌∙◌, subst, arith, inl, inr, length-drop, append-nil, eq-eqb}
 use Rattle.std.specs.Prelude.{filter, All, codes}
-use Rattle.std.specs.List.{list_any, list_all, slice_split}
+use Rattle.std.specs.List.{list_any, list_all}
 use Rattle.std.specs.Char.{is_ascii_digit, digit_value}
 use Rattle.std.specs.Str.Parse.{digits_value}
 use Rattle.std.proofs.lemmas.List.{take_more, drop_more, map-append, take_all}
-use Rattle.std.proofs.lemmas.List.Elements.{All-weaker}
 use Rattle.std.proofs.lemmas.List.Folds.{list_all-append}
 use Rattle.std.proofs.lemmas.Bool.{ne_eqb}
 use Rattle.std.proofs.lemmas.Bool.Decides.{nat_tests}
@@ -177,3 +176,6 @@ number_more v w n d e (inr over) h = absurd (omega arith)
 pub number_over : (v w n d : ℕ) → w ≡ v * 10 + d → IsNumberUpTo max_body v n → max_body < n → IsNumberUpTo max_body w n
 number_over v w n d e (inl is) h = inr (h, omega arith)
 number_over v w n d e (inr over) h = inr (h, omega arith)
+
+pub digit_low : (d : ℕ) → is_ascii_digit d ≡ true → d - 48 ≤ 9
+digit_low d e = grind (arith, nat_tests)

@@ -1,12 +1,12 @@
 -- Trailers are read in one way alone, and what comes behind them changes nothing.
-use Rattle.std.proofs.Common.{◌≡◌, ℕ, suc, zero, ◌+◌, ◌-◌, ◌<◌, ◌≤◌, ◌⊎◌, inl, inr, List, [], ◌∷◌, ◌++◌, length, take, drop, refl, sym, ap, ap₂, ◌∙◌, subst, arith, append_assoc, append-nil, length-append, min}
-use Rattle.std.proofs.lemmas.List.{length-take, take-append-le, take-append-drop}
+use Rattle.std.proofs.Common.{◌≡◌, ℕ, suc, zero, ◌+◌, ◌-◌, ◌≤◌, ◌⊎◌, inl, inr, List, [], ◌∷◌, ◌++◌, length, take, refl, sym, ap, ap₂, ◌∙◌, subst, arith, append_assoc, append-nil, length-append}
+use Rattle.std.proofs.lemmas.List.{take-append-le}
 use Rattle.std.proofs.Math.Seq.{take-append-add}
-use Rattle.httparse.specs.Grammar.{Field, LineEnd, ReadsSection, print_section, HasNoSection, MayBecomeSection}
+use Rattle.httparse.specs.Grammar.{Field, ReadsSection, print_section, HasNoSection, MayBecomeSection}
 use Rattle.httparse.proofs.GrammarLemmas.{section_unique, ReadsSection-append}
 use Rattle.http_message.specs.declared.extent.Refusal.{Refusal}
 use Rattle.http_message.specs.declared.extent.Refusal.TheVariants as refusal
-use Rattle.http_message.specs.Limits.{max_fields, max_head}
+use Rattle.http_message.specs.Limits.{max_head}
 use Rattle.http_message.specs.Chunks.{ReadsFields, ReadsTrailer, RefusesTrailer}
 
 -- of a list that begins with two fronts, one front begins the other
@@ -90,8 +90,7 @@ trailer_unique b r q x y = (fields_unique b x.fields y.fields r q x.reads y.read
 
 pub refused_trailer_more : (b more : List ℕ) (why : Refusal) → RefusesTrailer b why → RefusesTrailer (b ++ more) why
 refused_trailer_more b more refusal.Malformed (none, may) =
-    let g = grown max_head b more in
-    (
+    let g = grown max_head b more in (
       subst HasNoSection (sym g.is) (none_more (take max_head b) g.behind none may),
       λ m. may (may_less (take max_head b) g.behind (subst MayBecomeSection g.is m)),
     )

@@ -1,19 +1,20 @@
 -- What the parser of fields answers, in the words of a trailer.
-use Rattle.std.proofs.Common.{◌≡◌, ℕ, zero, suc, ◌+◌, ◌*◌, ◌-◌, ◌<◌, ◌≤◌, ◌⊎◌, inl, inr, List, [], ◌∷◌, ◌++◌, length, take, drop, map, refl, sym, ap, ◌∙◌, subst, arith, append_assoc, append-nil, length-append, length-map}
+use Rattle.std.proofs.Common.{◌≡◌, ℕ, zero, suc, ◌+◌, ◌*◌, ◌-◌, ◌<◌, ◌≤◌, inl, inr, List, [], ◌∷◌, ◌++◌, length, take, drop, sym, ap, ◌∙◌, subst, arith, append-nil, length-append}
 use Rattle.std.specs.Prelude.{All}
 use Rattle.std.specs.List.{flat_map}
-use Rattle.std.proofs.lemmas.List.{take-append-drop, drop-append-le}
+use Rattle.std.proofs.lemmas.List.{take-append-drop, drop-append-le, length-map}
 use Rattle.std.proofs.lemmas.List.Elements.{All-head, All-tail}
-use Rattle.httparse.specs.Grammar.{Field, IsField, LineEnd, crlf, lf, print_end, print_field, print_section, ReadsSection, HasNoSection, NeverHasSection, MayBecomeSection}
+use Rattle.httparse.specs.Grammar.{Field, IsField, LineEnd, crlf, lf, print_end, print_field, print_section, ReadsSection, HasNoSection, NeverHasSection}
 use Rattle.httparse.specs.Spans.{header_bytes, name_and_value, IsSectionWithin, IsSectionAt, IsSectionOf, SectionOverflows, SectionExceeds}
 use Rattle.httparse.specs.declared.spans.HeaderSpan.{HeaderSpan}
 use Rattle.httparse.proofs.GrammarLemmas.{ReadsSection-append}
 use Rattle.http_message.specs.declared.extent.Refusal.{Refusal}
 use Rattle.http_message.specs.declared.extent.Refusal.TheVariants as refusal
+use Rattle.http_message.specs.declared.trailer.Section.{Section}
 use Rattle.http_message.specs.declared.trailer.Section.TheVariants as section
 use Rattle.http_message.specs.declared.trailer.Trailer.TheVariants as trailer
-use Rattle.http_message.specs.Chunks.{ReadsFields, ReadsTrailer, RefusesTrailer}
-use Rattle.http_message.specs.Limits.{max_head, max_fields}
+use Rattle.http_message.specs.Chunks.{ReadsFields, RefusesTrailer}
+use Rattle.http_message.specs.Limits.{max_head}
 use Rattle.http_message.specs.Steps.{ShowsTrailer}
 use Rattle.http_message.specs.Trailers.{HasSection, IsPastRoom, IsSectionIn}
 use Rattle.http_message.proofs.TrailerLaws.{front_fits}
@@ -23,7 +24,7 @@ taken_of zero xs = omega arith
 taken_of (suc n) [] = omega arith
 taken_of (suc n) (x ∷ xs) = let r = taken_of n xs in omega (arith, r)
 
-taken_first : {X : Type 0} (n : ℕ) (xs : List X) → length (take n xs) ≤ n
+pub taken_first : {X : Type 0} (n : ℕ) (xs : List X) → length (take n xs) ≤ n
 taken_first zero xs = omega arith
 taken_first (suc n) [] = omega arith
 taken_first (suc n) (x ∷ xs) = let r = taken_first n xs in omega (arith, r)
@@ -55,6 +56,9 @@ section_never bytes n = (
   λ m. n m.0 m.1 m.2 [] m.3,
 )
 
+field_size : (f : Field) → length (print_field f) ≡ length f.name + (1 + (length f.raw + length (print_end f.end)))
+field_size f = simp length-append (omega arith)
+
 -- each field has three bytes or more
 pub fields_long : (fields : List Field) → All IsField fields → 3 * length fields ≤ length (flat_map print_field fields)
 fields_long [] all = omega arith
@@ -63,10 +67,9 @@ fields_long (f ∷ fs) all =
     let some = here.name.0 in
     let rest = fields_long fs (All-tail IsField f fs all) in
     let ends = end_long f.end in
-    let e = length-append (print_field f) (flat_map print_field fs) in
-    let n = length-append f.name (58 ∷ (f.raw ++ print_end f.end)) in
-    let r = length-append f.raw (print_end f.end) in
-    omega (arith, some, rest, ends, e, n, r)
+    let e : length (flat_map print_field (f ∷ fs)) ≡ length (print_field f) + length (flat_map print_field fs) = length-append (print_field f) (flat_map print_field fs) in
+    let n = field_size f in
+    omega (arith, some, rest, ends, e, n)
   where
     end_long : (e : LineEnd) → 1 ≤ length (print_end e)
     end_long crlf = omega arith
@@ -106,10 +109,23 @@ fields_behind bytes fields size h x =
         let t = taken_first max_head bytes in
         omega (arith, e, a, t)
 
+pub seen : (bytes first : List ℕ) (f g : Section) → first ≡ take max_head bytes → f ≡ g → IsSectionIn first f → IsSectionIn (take max_head bytes) g
+seen bytes first f g e k x = subst (λ t. IsSectionIn t g) e (subst (IsSectionIn first) k x)
+
 pub trailer_whole : (bytes : List ℕ) (size : ℕ) → IsSectionIn (take max_head bytes) (section.Whole size) → ShowsTrailer bytes (trailer.Whole size)
 trailer_whole bytes size (within, (fields, has, few)) =
     let l = taken_of max_head bytes in
     (omega (arith, within, l), record { fields = fields; reads = fields_behind bytes fields size within has; few = few })
+
+pub trailer_many : (bytes : List ℕ) → IsSectionIn (take max_head bytes) section.Many → ShowsTrailer bytes (trailer.Refused refusal.TooLarge)
+trailer_many bytes (fields, rest, has, many) =
+    let last = has.last in
+    let x = ReadsSection-append (take max_head bytes) fields last rest (drop max_head bytes) has.reads in
+    let reads : ReadsSection bytes fields last (rest ++ drop max_head bytes) = subst (λ t. ReadsSection t fields last (rest ++ drop max_head bytes)) (window_is bytes) x in
+    let e : length (take max_head bytes) ≡ length (print_section fields last ++ rest) = ap length has.reads.1 in
+    let a = length-append (print_section fields last) rest in
+    let t = taken_first max_head bytes in
+    inr (fields, rest ++ drop max_head bytes, record { last = last; reads = reads; fits = omega (arith, e, a, t) }, many)
 
 pub trailer_never : (bytes : List ℕ) → IsSectionIn (take max_head bytes) section.Never → ShowsTrailer bytes (trailer.Refused refusal.Malformed)
 trailer_never bytes x = x

@@ -1,5 +1,5 @@
 -- What the parser of fields finds in as many bytes as a trailer has at most.
-use Rattle.std.specs.Prelude.{◌≡◌, ℕ, ◌<◌, ◌≤◌, List, length, drop}
+use Rattle.std.specs.Prelude.{ℕ, ◌<◌, ◌≤◌, List, length, drop}
 use Rattle.httparse.specs.Grammar.{Field, LineEnd, ReadsSection, HasNoSection, MayBecomeSection}
 use Rattle.http_message.specs.declared.trailer.Section.{Section}
 use Rattle.http_message.specs.declared.trailer.Section.TheVariants as section

@@ -1,7 +1,7 @@
 ghost use Rattle.std.specs.Prelude.{◌≡◌, ℕ, ◌+◌, ◌<◌, ◌≤◌, [], length, drop, IfOk};
 ghost use Rattle.http_message.specs.Chunks.{ReadsSize};
 ghost use Rattle.http_message.specs.Limits.{max_body};
-ghost use Rattle.http_message.specs.Steps.{IsReading, ShowsChunked, ShowsNext};
+ghost use Rattle.http_message.specs.Steps.{IsReading, ShowsChunked, ShowsNext, ShowsEnd};
 
 use crate::extent::Refusal;
 use crate::limits::MAX_BODY;
@@ -29,6 +29,17 @@ pub enum Next {
     /// The last chunk line and a trailer, of so many bytes together.
     Last(usize),
     Refused(Refusal),
+}
+
+/// What stands behind the data of a chunk.
+#[derive(Clone, Copy, Debug, PartialEq, Eq)]
+pub enum End {
+    /// Less than CR LF.
+    Later,
+    /// CR LF.
+    Stands,
+    /// What is no CR LF, and becomes none.
+    Never,
 }
 
 /// Reads a body by chunks (RFC 9112, section 7.1) whose bytes come piece by piece: a chunk that was
@@ -105,11 +116,30 @@ fn chunk_of(bytes: &[u8], line: usize, size: usize, before: usize) -> Next
     if rest.len() < size {
         return Next::Later;
     }
-    match &rest[size..] {
-        [] => Next::Later,
-        [b'\r'] => Next::Later,
-        [b'\r', b'\n', ..] => Next::Chunk(line, line + size),
-        _ => Next::Refused(Refusal::Malformed),
+    match end_of(&rest[size..]) {
+        End::Later => Next::Later,
+        End::Stands => Next::Chunk(line, line + size),
+        End::Never => Next::Refused(Refusal::Malformed),
+    }
+}
+
+/// Looks for the CR LF behind the data of a chunk.
+fn end_of(bytes: &[u8]) -> End
+    ensures { ShowsEnd bytes.now result }
+{
+    if bytes.is_empty() {
+        return End::Later;
+    }
+    if bytes[0] != b'\r' {
+        return End::Never;
+    }
+    if bytes.len() == 1 {
+        return End::Later;
+    }
+    if bytes[1] == b'\n' {
+        End::Stands
+    } else {
+        End::Never
     }
 }
 
@@ -117,7 +147,7 @@ fn chunk_of(bytes: &[u8], line: usize, size: usize, before: usize) -> Next
 fn last_of(alloc: Global, bytes: &[u8], line: usize) -> Result<Next, NoMemory>
     requires within { line ≤ length bytes.now }
     requires reads { ReadsSize bytes.now 0 (drop line bytes.now) }
-    ensures { (before : ℕ) → IfOk result (λ next. ShowsNext before bytes.now next) }
+    ensures { (before : ℕ) → before ≤ max_body → IfOk result (λ next. ShowsNext before bytes.now next) }
 {
     Ok(match read_trailer(alloc, &bytes[line..])? {
         Trailer::Later => Next::Later,

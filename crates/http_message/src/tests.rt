@@ -8,8 +8,16 @@ fn bodies_by_chunks_are_read(rt: HostRuntime) -> Result<(), Fail> {
     let malformed = Chunked::Refused(Refusal::Malformed);
     let large = Chunked::Refused(Refusal::TooLarge);
     let rows: [(&[u8], Chunked, &[u8]); 10] = [
-        (b"4\r\nWiki\r\n5;a=b\r\npedia\r\n0\r\n\r\n", Chunked::Whole(28), b"Wikipedia"),
-        (b"a\r\n0123456789\r\n0\r\nExpires: never\r\n\r\nGET", Chunked::Whole(36), b"0123456789"),
+        (
+            b"4\r\nWiki\r\n5;a=b\r\npedia\r\n0\r\n\r\n",
+            Chunked::Whole(28),
+            b"Wikipedia",
+        ),
+        (
+            b"a\r\n0123456789\r\n0\r\nExpires: never\r\n\r\nGET",
+            Chunked::Whole(36),
+            b"0123456789",
+        ),
         (b"0\r\n\r\n", Chunked::Whole(5), b""),
         (b"4\r\nWiki\r", Chunked::Later, b""),
         (b"4\r\nWiki\r\n5\r\nped", Chunked::Later, b"Wiki"),

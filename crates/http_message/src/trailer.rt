@@ -69,8 +69,10 @@ fn read_section(alloc: Global, bytes: &[u8]) -> Result<Section, NoMemory>
     match parse_headers(bytes, &mut few) {
         Ok(Status::Complete((size, _))) => Ok(Section::Whole(size)),
         Ok(Status::Partial) => Ok(Section::Later),
-        Err(Error::TooManyHeaders) => read_wide(alloc, bytes),
-        Err(_) => Ok(Section::Never),
+        Err(error) => match error {
+            Error::TooManyHeaders => read_wide(alloc, bytes),
+            _ => Ok(Section::Never),
+        },
     }
 }
 
@@ -81,11 +83,21 @@ fn read_wide(alloc: Global, bytes: &[u8]) -> Result<Section, NoMemory>
     ensures { IfOk result (λ found. IsSectionIn bytes.now found) }
 {
     let mut many = room(alloc)?;
-    Ok(match parse_headers(bytes, many.as_mut_slice()) {
+    Ok(read_into(bytes, many.as_mut_slice()))
+}
+
+/// Reads a section that has more fields than a trailer may have, into places for each.
+fn read_into(bytes: &[u8], many: &mut [HeaderSpan]) -> Section
+    requires small { length bytes.now ≤ max_head }
+    requires many { IsPastRoom bytes.now }
+    requires places { length many.old ≡ 5461 }
+    ensures { IsSectionIn bytes.now result }
+{
+    match parse_headers(bytes, many) {
         Ok(Status::Complete(_)) => Section::Many,
         Ok(Status::Partial) => Section::Later,
         Err(_) => Section::Never,
-    })
+    }
 }
 
 /// Places for as many fields as `MAX_HEAD` bytes can have.
