@@ -5,10 +5,12 @@ use Rattle.std.specs.Prelude.{ℕ, List, [], ◌∷◌, ◌++◌, Bool, ◌||◌
 abbrev pub crlf : List ℕ
 crlf = 13 ∷ 10 ∷ []
 
--- the names of the fields that belong to one link (RFC 9110, section 7.6.1), and of the length: the server writes these itself
+-- the names of the fields that belong to one link (RFC 9110, section 7.6.1), and of the length:
+-- the server writes these itself
 unfoldable pub is_own_field : List ℕ → Bool
-is_own_field name = bytes_eq name (codes "connection") || bytes_eq name (codes "keep-alive") || bytes_eq name (codes "proxy-connection")
-    || bytes_eq name (codes "te") || bytes_eq name (codes "trailer") || bytes_eq name (codes "transfer-encoding")
+is_own_field name = bytes_eq name (codes "connection") || bytes_eq name (codes "keep-alive")
+    || bytes_eq name (codes "proxy-connection") || bytes_eq name (codes "te")
+    || bytes_eq name (codes "trailer") || bytes_eq name (codes "transfer-encoding")
     || bytes_eq name (codes "upgrade") || bytes_eq name (codes "content-length")
 
 -- a field line: the name, a colon and a space, and the value

@@ -1,5 +1,6 @@
 -- The text of a reply on a link (RFC 9112, sections 4 to 6).
-use Rattle.std.specs.Prelude.{ℕ, List, [], ◌∷◌, ◌++◌, ◌&&◌, ◌||◌, ◌==◌, Bool, codes, decimal, length, flat_map, unwrap_or, nat_le, nat_lt, if◌then◌else◌}
+use Rattle.std.specs.Prelude.{ℕ, List, [], ◌∷◌, ◌++◌, ◌&&◌, ◌||◌, ◌==◌, Bool}
+use Rattle.std.specs.Prelude.{codes, decimal, length, flat_map, unwrap_or, nat_le, nat_lt, if◌then◌else◌}
 use Rattle.http.specs.StatusCode.{reason_phrase}
 use Rattle.wd_base.specs.declared.http.Reply.{Reply}
 use Rattle.wd_base.specs.declared.http.Why.TheVariants as why

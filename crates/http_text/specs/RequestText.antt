@@ -1,5 +1,6 @@
 -- The text of a request on a link of its own (RFC 9112, sections 3, 5 and 6).
-use Rattle.std.specs.Prelude.{ℕ, List, [], ◌∷◌, ◌++◌, codes, length, flat_map, bytes_eq, unwrap_or, option_map, Option, Some, None, if◌then◌else◌}
+use Rattle.std.specs.Prelude.{ℕ, List, [], ◌∷◌, ◌++◌, codes, length, flat_map}
+use Rattle.std.specs.Prelude.{bytes_eq, unwrap_or, option_map, Option, Some, None, if◌then◌else◌}
 use Rattle.url.specs.Parts.{Parts, has_host}
 use Rattle.wd_base.specs.declared.http.ReqData.{ReqData}
 use Rattle.wd_url.specs.Url.{url_of, host_and_port, path_and_query}

@@ -1,6 +1,7 @@
 ghost use Rattle.std.specs.Prelude.{◌≡◌, ◌++◌, IfOk, OnOk, flat_map, false, true};
 ghost use Rattle.http_text.specs.Fields.{kept_line};
-ghost use Rattle.http_text.specs.ReplyText.{status_line, is_unsized, is_reset, stated_length, sent_body, head_end, reply_text};
+ghost use Rattle.http_text.specs.ReplyText.{status_line, is_unsized, is_reset, stated_length, sent_body};
+ghost use Rattle.http_text.specs.ReplyText.{head_end, reply_text};
 
 use crate::fields::{push_kept, push_length};
 use crate::phrases::phrase;
@@ -45,7 +46,12 @@ fn push_fields(text: &mut Vec<u8>, fields: &[(Bytes, Bytes)]) -> Result<(), NoMe
     Ok(())
 }
 
-fn push_stated_length(alloc: Global, text: &mut Vec<u8>, status: u16, size: usize) -> Result<(), NoMemory>
+fn push_stated_length(
+    alloc: Global,
+    text: &mut Vec<u8>,
+    status: u16,
+    size: usize,
+) -> Result<(), NoMemory>
     ensures { OnOk result (text.new.items ≡ text.old.items ++ stated_length status size) }
 {
     if is_unsized(status) {

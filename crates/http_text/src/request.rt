@@ -1,5 +1,6 @@
 ghost use Rattle.std.specs.Prelude.{◌≡◌, ◌++◌, IfOk, OnOk, flat_map};
-ghost use Rattle.http_text.specs.RequestText.{destination, target, host, request_line, host_line, request_field, body_length, last_lines, body_bytes, head_to, text_to, request_text};
+ghost use Rattle.http_text.specs.RequestText.{destination, target, host, request_line, host_line, request_field};
+ghost use Rattle.http_text.specs.RequestText.{body_length, last_lines, body_bytes, head_to, text_to, request_text};
 
 use crate::fields::{push_field, push_kept, push_length};
 use std::alloc::Global;
@@ -29,7 +30,12 @@ fn text_to(alloc: Global, url: &Option<Url>, request: &ReqData) -> Result<Bytes,
 }
 
 #[tactic(auto, unfolding(crate::specs::RequestText::head_to))]
-fn push_head(alloc: Global, text: &mut Vec<u8>, url: &Option<Url>, request: &ReqData) -> Result<(), NoMemory>
+fn push_head(
+    alloc: Global,
+    text: &mut Vec<u8>,
+    url: &Option<Url>,
+    request: &ReqData,
+) -> Result<(), NoMemory>
     ensures { OnOk result (text.new.items ≡ text.old.items ++ head_to url.now request.now) }
 {
     push_request_line(text, request.method.as_slice(), target(url))?;

@@ -43,7 +43,13 @@ fn replies_have_the_bytes_of_their_kind(rt: HostRuntime) -> Result<(), Fail> {
             true,
             b"HTTP/1.1 200 OK\r\na: b\r\ncontent-length: 12\r\nconnection: close\r\n\r\n",
         ),
-        (204, b"x", false, false, b"HTTP/1.1 204 No Content\r\na: b\r\n\r\n"),
+        (
+            204,
+            b"x",
+            false,
+            false,
+            b"HTTP/1.1 204 No Content\r\na: b\r\n\r\n",
+        ),
         (
             205,
             b"x",
@@ -51,9 +57,27 @@ fn replies_have_the_bytes_of_their_kind(rt: HostRuntime) -> Result<(), Fail> {
             false,
             b"HTTP/1.1 205 Reset Content\r\na: b\r\ncontent-length: 0\r\n\r\n",
         ),
-        (304, b"x", false, true, b"HTTP/1.1 304 Not Modified\r\na: b\r\nconnection: close\r\n\r\n"),
-        (299, b"x", false, false, b"HTTP/1.1 299 \r\na: b\r\ncontent-length: 1\r\n\r\nx"),
-        (99, b"", false, false, b"HTTP/1.1 99 \r\na: b\r\ncontent-length: 0\r\n\r\n"),
+        (
+            304,
+            b"x",
+            false,
+            true,
+            b"HTTP/1.1 304 Not Modified\r\na: b\r\nconnection: close\r\n\r\n",
+        ),
+        (
+            299,
+            b"x",
+            false,
+            false,
+            b"HTTP/1.1 299 \r\na: b\r\ncontent-length: 1\r\n\r\nx",
+        ),
+        (
+            99,
+            b"",
+            false,
+            false,
+            b"HTTP/1.1 99 \r\na: b\r\ncontent-length: 0\r\n\r\n",
+        ),
     ];
     let pairs: [(&[u8], &[u8]); 1] = [(b"a", b"b")];
     for (status, body, head, close, want) in rows {
@@ -114,7 +138,10 @@ fn requests_go_to_the_url(rt: HostRuntime) -> Result<(), Fail> {
             b"http://[::1]:80?",
             b"GET /? HTTP/1.1\r\nhost: [::1]\r\ncontent-length: 2\r\nconnection: close\r\n\r\nhi",
         ),
-        (b"/a", b"GET  HTTP/1.1\r\nhost: \r\ncontent-length: 2\r\nconnection: close\r\n\r\nhi"),
+        (
+            b"/a",
+            b"GET  HTTP/1.1\r\nhost: \r\ncontent-length: 2\r\nconnection: close\r\n\r\nhi",
+        ),
         (
             b"mailto:a@b",
             b"GET  HTTP/1.1\r\nhost: \r\ncontent-length: 2\r\nconnection: close\r\n\r\nhi",
@@ -135,7 +162,8 @@ fn the_first_worked_row(rt: HostRuntime) -> Result<(), Fail> {
     let pairs: [(&[u8], &[u8]); 1] = [(b"content-type", b"text/plain;charset=UTF-8")];
     let reply = reply_of(rt.alloc(), 200, &pairs, b"Hello World\n")?;
     let text = reply_text(rt.alloc(), &reply, false, false)?;
-    let want = b"HTTP/1.1 200 OK\r\ncontent-type: text/plain;charset=UTF-8\r\ncontent-length: 12\r\n\r\nHello World\n".as_slice();
+    let want =
+        b"HTTP/1.1 200 OK\r\ncontent-type: text/plain;charset=UTF-8\r\ncontent-length: 12\r\n\r\nHello World\n".as_slice();
     assert!(rt; text.as_slice() == want);
     Ok(())
 }
@@ -144,7 +172,8 @@ fn the_first_worked_row(rt: HostRuntime) -> Result<(), Fail> {
 fn refusals_have_their_phrase(rt: HostRuntime) -> Result<(), Fail> {
     let reply = bad_reply(rt.alloc(), 413)?;
     let text = reply_text(rt.alloc(), &reply, false, true)?;
-    let want = b"HTTP/1.1 413 Payload Too Large\r\ncontent-type: text/plain;charset=UTF-8\r\ncontent-length: 17\r\nconnection: close\r\n\r\nPayload Too Large".as_slice();
+    let want =
+        b"HTTP/1.1 413 Payload Too Large\r\ncontent-type: text/plain;charset=UTF-8\r\ncontent-length: 17\r\nconnection: close\r\n\r\nPayload Too Large".as_slice();
     assert!(rt; text.as_slice() == want);
     assert!(rt; phrase(400) == "Bad Request");
     Ok(())
