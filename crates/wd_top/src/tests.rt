@@ -98,6 +98,9 @@ const CLOSING: &[u8] = b"GET / HTTP/1.1\r\nHost: localhost:8080\r\nConnection: c
 
 const LARGE: &[u8] = b"POST / HTTP/1.1\r\nHost: localhost:8080\r\nContent-Length: 1048577\r\n\r\n";
 
+/// A head may begin so.
+const METHOD: &[u8] = b"POST";
+
 /// No head begins so.
 const NO_HEAD: &[u8] = b"(";
 
@@ -331,18 +334,47 @@ fn joined(alloc: Global, texts: &[&[u8]]) -> Result<Bytes, NoMemory> {
     Ok(bytes)
 }
 
+/// A link on which these pieces come carries these replies, is shut once, and its requests have so
+/// many entries.
+fn carries<R: Threads + Wait + Sync>(
+    rt: &R,
+    alloc: Global,
+    pieces: &[&[u8]],
+    replies: &[&[u8]],
+    entries: usize,
+) -> Result<bool, NoMemory> {
+    let came = call(rt, alloc, &one_link(pieces), None)?;
+    let (sent, shuts) = link_of(came.ended.ports.as_slice(), 1);
+    let replies = joined(alloc, replies)?;
+    Ok(came.ended.status == 0
+        && came.printed.is_empty()
+        && shuts == 1
+        && came.ended.journal.entries.len() == entries
+        && sent == replies.as_slice())
+}
+
 #[test]
 fn a_link_carries_the_replies_of_its_requests(rt: HostRuntime) -> Result<(), Fail> {
-    let cases: [(&[&[u8]], &[&[u8]], usize); 16] = [
+    let cases: [(&[&[u8]], &[&[u8]], usize); 9] = [
         (&[GET], &[REPLY], 3),
         (&[GET, GET, GET], &[REPLY, REPLY, REPLY], 9),
         (&[PIPELINED], &[REPLY, REPLY], 6),
         (&[GET_FRONT, GET_REST], &[REPLY], 3),
         (&[], &[], 0),
-        (&[b"POST"], &[], 0),
+        (&[METHOD], &[], 0),
         (&[NO_HEAD], &[BAD], 0),
         (&[GET, NO_HEAD, GET], &[REPLY, BAD], 3),
         (&[WITHOUT_HOST], &[BAD], 0),
+    ];
+    for (pieces, replies, entries) in cases {
+        assert!(rt; carries(&rt, rt.alloc(), pieces, replies, entries)?);
+    }
+    Ok(())
+}
+
+#[test]
+fn requests_of_each_kind_are_served(rt: HostRuntime) -> Result<(), Fail> {
+    let cases: [(&[&[u8]], &[&[u8]], usize); 7] = [
         (&[CURL, CURL], &[REPLY, REPLY], 6),
         (&[COUNTED, GET], &[REPLY, REPLY], 6),
         (&[CHUNKED, GET], &[REPLY, REPLY], 6),
@@ -352,14 +384,7 @@ fn a_link_carries_the_replies_of_its_requests(rt: HostRuntime) -> Result<(), Fai
         (&[GET, LARGE], &[REPLY, TOO_LARGE], 3),
     ];
     for (pieces, replies, entries) in cases {
-        let came = call(&rt, rt.alloc(), &one_link(pieces), None)?;
-        let (sent, shuts) = link_of(came.ended.ports.as_slice(), 1);
-        let replies = joined(rt.alloc(), replies)?;
-        assert_eq!(rt; came.ended.status, 0);
-        assert_eq!(rt; came.printed.len(), 0);
-        assert_eq!(rt; shuts, 1);
-        assert_eq!(rt; came.ended.journal.entries.len(), entries);
-        assert!(rt; sent == replies.as_slice());
+        assert!(rt; carries(&rt, rt.alloc(), pieces, replies, entries)?);
     }
     Ok(())
 }
