@@ -346,11 +346,13 @@ fn carries<R: Threads + Wait + Sync>(
     let came = call(rt, alloc, &one_link(pieces), None)?;
     let (sent, shuts) = link_of(came.ended.ports.as_slice(), 1);
     let replies = joined(alloc, replies)?;
-    Ok(came.ended.status == 0
-        && came.printed.is_empty()
-        && shuts == 1
-        && came.ended.journal.entries.len() == entries
-        && sent == replies.as_slice())
+    Ok(
+        came.ended.status == 0
+            && came.printed.is_empty()
+            && shuts == 1
+            && came.ended.journal.entries.len() == entries
+            && sent == replies.as_slice(),
+    )
 }
 
 #[test]
@@ -527,17 +529,31 @@ fn the_journal_has_a_request_as_it_came(rt: HostRuntime) -> Result<(), Fail> {
     let cases: [(&[u8], &[u8], &[u8], usize, Option<&[u8]>); 4] = [
         (CURL, b"GET", b"http://localhost:8080/", 3, None),
         (ONLY_HEAD, b"HEAD", b"http://localhost:8080/", 1, None),
-        (COUNTED, b"POST", b"http://localhost:8080/a?b=c", 3, Some(b"hello")),
-        (CHUNKED, b"POST", b"http://localhost:8080/", 2, Some(b"hello")),
+        (
+            COUNTED,
+            b"POST",
+            b"http://localhost:8080/a?b=c",
+            3,
+            Some(b"hello"),
+        ),
+        (
+            CHUNKED,
+            b"POST",
+            b"http://localhost:8080/",
+            2,
+            Some(b"hello"),
+        ),
     ];
     for (bytes, method, url, fields, body) in cases {
         let pieces = [bytes];
         let came = call(&rt, rt.alloc(), &one_link(&pieces), None)?;
         let request = first_request(came.ended.journal.entries.as_slice());
-        assert!(rt; request.is_some_and(|request| request.method.as_slice() == method
-            && request.url.as_slice() == url
-            && request.fields.len() == fields
-            && body_of(request) == body));
+        assert!(rt;
+            request.is_some_and(|request| request.method.as_slice() == method
+                && request.url.as_slice() == url
+                && request.fields.len() == fields
+                && body_of(request) == body)
+        );
     }
     Ok(())
 }
