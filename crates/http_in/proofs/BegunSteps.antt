@@ -1,19 +1,16 @@
 -- A head that was read, and what stands behind it.
-use Rattle.std.proofs.Common.{◌≡◌, ℕ, ◌+◌, ◌<◌, ◌≤◌, List, [], ◌∷◌, ◌++◌, length, take, drop, refl, sym, ap, ◌∙◌, subst, arith, Bool, Option, Some, None, inl, inr, length-append, length-drop, length-take-le, take-append-drop, drop-drop}
+use Rattle.std.proofs.Common.{◌≡◌, ℕ, ◌+◌, ◌<◌, ◌≤◌, List, ◌++◌, length, take, drop, refl, sym, ap, subst, arith, Option, Some, None, inl, inr, length-append, length-drop, length-take-le, take-append-drop, drop-drop}
 use Rattle.std.proofs.lemmas.List.{drop-append-le}
-use Rattle.http_message.specs.declared.extent.Extent.{Extent}
 use Rattle.http_message.specs.declared.extent.Extent.TheVariants as extent
 use Rattle.http_message.specs.declared.chunks.ChunkReader.{ChunkReader}
-use Rattle.http_message.specs.declared.chunks.Chunked.{Chunked}
 use Rattle.http_message.specs.declared.chunks.Chunked.TheVariants as chunked
 use Rattle.http_message.specs.declared.extent.Refusal.{Refusal}
 use Rattle.http_message.proofs.ChunkSteps.{reading_more}
 use Rattle.http_message.specs.Steps.{IsReading, ShowsChunked}
-use Rattle.http_message.specs.Chunks.{ReadsChunked}
 use Rattle.wd_base.specs.declared.http.ReqData.{ReqData}
 use Rattle.http_in.specs.declared.request.Begun.{Begun}
 use Rattle.http_in.specs.Steps.{IsBegun, MayBegin}
-use Rattle.http_in.specs.Stream.{ReadsBody, RefusesBody, ReadsAsked, Reads, Refuses, RefusesBehind, IsUnfinished}
+use Rattle.http_in.specs.Stream.{ReadsBody, RefusesBody, ReadsAsked, Reads, Refuses, IsUnfinished}
 use Rattle.http_in.proofs.HeadLaws.{head_refused}
 use Rattle.http_in.proofs.StreamLaws.{asked_unique, asked_more, asked_refused, body_at}
 
@@ -44,12 +41,12 @@ begun_unfinished b x y none fine = record {
       let u = asked_unique b y.head z.head (y.url, x.extent) z.what (drop x.size b) z.behind y.asks z.asks in
       none z.body rest (subst (λ t. ReadsBody x.extent t z.body rest) (sym u.left) (subst (λ w. ReadsBody w.1 z.behind z.body rest) (sym u.what) z.reads));
   fault = λ why f. elim f [
-      | inl h ↦ head_refused b y.head (drop x.size b) why y.asks.reads h
-      | inr o ↦ elim o [
-          | inl z ↦ asked_refused b y.head (y.url, x.extent) (drop x.size b) why y.asks z
-          | inr z ↦ fine why (body_at b why y.head (y.url, x.extent) (drop x.size b) y.asks z)
-        ]
-    ];
+    | inl h ↦ head_refused b y.head (drop x.size b) why y.asks.reads h
+    | inr o ↦ elim o [
+      | inl z ↦ asked_refused b y.head (y.url, x.extent) (drop x.size b) why y.asks z
+      | inr z ↦ fine why (body_at b why y.head (y.url, x.extent) (drop x.size b) y.asks z)
+    ]
+  ];
 }
 
 -- with the body behind it, it is a request
@@ -96,11 +93,12 @@ counted_whole b x size r y is fits made =
 
 -- where neither a body by chunks nor what is refused is there, the request is unfinished, and the chunks that were read stay read
 pub chunked_later : (b : List ℕ) (x : Begun) (reader : ChunkReader) → IsBegun b x → x.extent ≡ extent.Chunked → IsReading (drop x.size b) reader → ShowsChunked (drop x.size b) reader.body chunked.Later → IsUnfinished b × IsBegun b (record x { reader = reader })
-chunked_later b x reader y is reading shown =
-    (begun_unfinished b x y
+chunked_later b x reader y is reading shown = (
+  begun_unfinished b x y
       (λ body rest r. let read = subst (λ e. ReadsBody e (drop x.size b) body rest) is r in shown.0 read.0 rest read.2)
       (λ why r. shown.1 why (subst (λ e. RefusesBody e (drop x.size b) why) is r)),
-    record { head = y.head; url = y.url; within = y.within; asks = y.asks; made = y.made; close = y.close; reading = reading })
+  record { head = y.head; url = y.url; within = y.within; asks = y.asks; made = y.made; close = y.close; reading = reading },
+)
 
 -- a body by chunks is whole
 pub chunked_whole : (b : List ℕ) (x : Begun) (text : List ℕ) (size : ℕ) (r : ReqData) → IsBegun b x → x.extent ≡ extent.Chunked → ShowsChunked (drop x.size b) text (chunked.Whole size) → r ≡ record x.request { body = Some text } → (x.size + size ≤ length b) × Reads b r x.close (drop (x.size + size) b)

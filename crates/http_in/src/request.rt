@@ -84,7 +84,11 @@ fn read_chunked(alloc: Global, bytes: &[u8], mut begun: Begun) -> Result<Seen, N
         Chunked::Refused(why) => Ok(Seen::Refused(why)),
         Chunked::Whole(size) => {
             let end = begun.size + size;
-            Ok(Seen::Whole(with_body(begun.request, begun.reader.body), begun.close, end))
+            Ok(Seen::Whole(
+                with_body(begun.request, begun.reader.body),
+                begun.close,
+                end,
+            ))
         }
     }
 }

@@ -28,11 +28,23 @@ fn refusals_come_in_their_order(rt: HostRuntime) -> Result<(), Fail> {
     let rows: [(&[u8], usize, Option<u16>); 44] = [
         (b"GET / HTTP/1.1\r\nHost: a\r\n\r\n", 1, None),
         (b"\r\n\nGET / HTTP/1.1\nHost: a\n\n", 1, None),
-        (b"GET / HTTP/1.1\r\nHost: a\r\n\r\nGET / HTTP/1.1\r\nHost: a\r\n\r\n", 2, None),
+        (
+            b"GET / HTTP/1.1\r\nHost: a\r\n\r\nGET / HTTP/1.1\r\nHost: a\r\n\r\n",
+            2,
+            None,
+        ),
         (b"GET / HTTP/1.1\r\nHost: a\r\n\r\nGET / ", 1, None),
         (b"GET / HTTP/1.1\r\nHost: a\r\n\r\nGET\r", 1, Some(400)),
-        (b"GET / HTTP/1.1\r\nHost: a\r\nConnection: x ,\tCLOSE\r\n\r\n?", 1, None),
-        (b"GET / HTTP/1.1\r\nHost: a\r\nConnection: closed\r\n\r\n?", 1, Some(400)),
+        (
+            b"GET / HTTP/1.1\r\nHost: a\r\nConnection: x ,\tCLOSE\r\n\r\n?",
+            1,
+            None,
+        ),
+        (
+            b"GET / HTTP/1.1\r\nHost: a\r\nConnection: closed\r\n\r\n?",
+            1,
+            Some(400),
+        ),
         (b"GET / HTTP/1.0\r\nHost: a\r\n\r\n?", 1, None),
         // what is no prefix of a head
         (b"(", 0, Some(400)),
@@ -46,7 +58,11 @@ fn refusals_come_in_their_order(rt: HostRuntime) -> Result<(), Fail> {
         // Host
         (b"GET / HTTP/1.1\r\n\r\n", 0, Some(400)),
         (b"GET / HTTP/1.0\r\n\r\n", 0, Some(400)),
-        (b"GET / HTTP/1.1\r\nHost: a\r\nhOST: a\r\n\r\n", 0, Some(400)),
+        (
+            b"GET / HTTP/1.1\r\nHost: a\r\nhOST: a\r\n\r\n",
+            0,
+            Some(400),
+        ),
         // the target
         (b"GET a HTTP/1.1\r\nHost: a\r\n\r\n", 0, Some(400)),
         (b"GET https://a/ HTTP/1.1\r\nHost: a\r\n\r\n", 0, Some(400)),
@@ -57,25 +73,97 @@ fn refusals_come_in_their_order(rt: HostRuntime) -> Result<(), Fail> {
         (b"GET / HTTP/1.1\r\nHost: a b\r\n\r\n", 0, Some(400)),
         (b"GET / HTTP/1.1\r\nHost: a:99999\r\n\r\n", 0, Some(400)),
         // Content-Length and Transfer-Encoding
-        (b"GET / HTTP/1.1\r\nHost: a\r\nContent-Length: 1\r\nTransfer-Encoding: chunked\r\n\r\n", 0, Some(400)),
-        (b"GET / HTTP/1.1\r\nHost: a\r\nContent-Length: 1\r\nContent-Length: 1\r\n\r\n", 0, Some(400)),
-        (b"GET / HTTP/1.1\r\nHost: a\r\nContent-Length: +1\r\n\r\n", 0, Some(400)),
-        (b"GET / HTTP/1.1\r\nHost: a\r\nContent-Length:\r\n\r\n", 0, Some(400)),
-        (b"GET / HTTP/1.1\r\nHost: a\r\nTransfer-Encoding: gzip\r\n\r\n", 0, Some(400)),
-        (b"GET / HTTP/1.1\r\nHost: a\r\nTransfer-Encoding: gzip, chunked\r\n\r\n", 0, Some(400)),
-        (b"GET / HTTP/1.1\r\nHost: a\r\nTransfer-Encoding: Chunked\r\n\r\n0\r\n\r\n", 1, None),
-        (b"GET / HTTP/1.1\r\nHost: a\r\nContent-Length: 1048576\r\n\r\n", 0, None),
-        (b"GET / HTTP/1.1\r\nHost: a\r\nContent-Length: 1048577\r\n\r\n", 0, Some(413)),
-        (b"GET / HTTP/1.1\r\nContent-Length: 1048577\r\n\r\n", 0, Some(400)),
-        (b"GET / HTTP/1.1\r\nHost: a\r\nContent-Length: 3\r\n\r\nab", 0, None),
-        (b"GET / HTTP/1.1\r\nHost: a\r\nContent-Length: 3\r\n\r\nabcGET", 1, None),
-        (b"GET / HTTP/1.1\r\nHost: a\r\nContent-Length: 0\r\n\r\n", 1, None),
+        (
+            b"GET / HTTP/1.1\r\nHost: a\r\nContent-Length: 1\r\nTransfer-Encoding: chunked\r\n\r\n",
+            0,
+            Some(400),
+        ),
+        (
+            b"GET / HTTP/1.1\r\nHost: a\r\nContent-Length: 1\r\nContent-Length: 1\r\n\r\n",
+            0,
+            Some(400),
+        ),
+        (
+            b"GET / HTTP/1.1\r\nHost: a\r\nContent-Length: +1\r\n\r\n",
+            0,
+            Some(400),
+        ),
+        (
+            b"GET / HTTP/1.1\r\nHost: a\r\nContent-Length:\r\n\r\n",
+            0,
+            Some(400),
+        ),
+        (
+            b"GET / HTTP/1.1\r\nHost: a\r\nTransfer-Encoding: gzip\r\n\r\n",
+            0,
+            Some(400),
+        ),
+        (
+            b"GET / HTTP/1.1\r\nHost: a\r\nTransfer-Encoding: gzip, chunked\r\n\r\n",
+            0,
+            Some(400),
+        ),
+        (
+            b"GET / HTTP/1.1\r\nHost: a\r\nTransfer-Encoding: Chunked\r\n\r\n0\r\n\r\n",
+            1,
+            None,
+        ),
+        (
+            b"GET / HTTP/1.1\r\nHost: a\r\nContent-Length: 1048576\r\n\r\n",
+            0,
+            None,
+        ),
+        (
+            b"GET / HTTP/1.1\r\nHost: a\r\nContent-Length: 1048577\r\n\r\n",
+            0,
+            Some(413),
+        ),
+        (
+            b"GET / HTTP/1.1\r\nContent-Length: 1048577\r\n\r\n",
+            0,
+            Some(400),
+        ),
+        (
+            b"GET / HTTP/1.1\r\nHost: a\r\nContent-Length: 3\r\n\r\nab",
+            0,
+            None,
+        ),
+        (
+            b"GET / HTTP/1.1\r\nHost: a\r\nContent-Length: 3\r\n\r\nabcGET",
+            1,
+            None,
+        ),
+        (
+            b"GET / HTTP/1.1\r\nHost: a\r\nContent-Length: 0\r\n\r\n",
+            1,
+            None,
+        ),
         // chunks
-        (b"GET / HTTP/1.1\r\nHost: a\r\nTransfer-Encoding: chunked\r\n\r\n1\r\nab", 0, Some(400)),
-        (b"GET / HTTP/1.1\r\nHost: a\r\nTransfer-Encoding: chunked\r\n\r\nx", 0, Some(400)),
-        (b"GET / HTTP/1.1\r\nHost: a\r\nTransfer-Encoding: chunked\r\n\r\n100001\r\n", 0, Some(413)),
-        (b"GET / HTTP/1.1\r\nHost: a\r\nTransfer-Encoding: chunked\r\n\r\n1\r\na\r\n100000\r\n", 0, Some(413)),
-        (b"GET / HTTP/1.1\r\nHost: a\r\nTransfer-Encoding: chunked\r\n\r\n1;x\r\na\r\n0\r\nB: c\r\n\r\n(", 1, Some(400)),
+        (
+            b"GET / HTTP/1.1\r\nHost: a\r\nTransfer-Encoding: chunked\r\n\r\n1\r\nab",
+            0,
+            Some(400),
+        ),
+        (
+            b"GET / HTTP/1.1\r\nHost: a\r\nTransfer-Encoding: chunked\r\n\r\nx",
+            0,
+            Some(400),
+        ),
+        (
+            b"GET / HTTP/1.1\r\nHost: a\r\nTransfer-Encoding: chunked\r\n\r\n100001\r\n",
+            0,
+            Some(413),
+        ),
+        (
+            b"GET / HTTP/1.1\r\nHost: a\r\nTransfer-Encoding: chunked\r\n\r\n1\r\na\r\n100000\r\n",
+            0,
+            Some(413),
+        ),
+        (
+            b"GET / HTTP/1.1\r\nHost: a\r\nTransfer-Encoding: chunked\r\n\r\n1;x\r\na\r\n0\r\nB: c\r\n\r\n(",
+            1,
+            Some(400),
+        ),
     ];
     for (bytes, count, fault) in rows {
         let found = shown(rt.alloc(), bytes)?;
@@ -84,7 +172,8 @@ fn refusals_come_in_their_order(rt: HostRuntime) -> Result<(), Fail> {
     Ok(())
 }
 
-const WHOLE: &[u8] = b"POST /a HTTP/1.1\r\nHost: b\r\nX-Y: Z\r\nTransfer-Encoding: chunked\r\n\r\n2\r\ncd\r\n0\r\n\r\n";
+const WHOLE: &[u8] =
+    b"POST /a HTTP/1.1\r\nHost: b\r\nX-Y: Z\r\nTransfer-Encoding: chunked\r\n\r\n2\r\ncd\r\n0\r\n\r\n";
 
 #[test]
 fn a_request_may_be_cut_anywhere(rt: HostRuntime) -> Result<(), Fail> {
@@ -98,7 +187,12 @@ fn a_request_may_be_cut_anywhere(rt: HostRuntime) -> Result<(), Fail> {
                 assert!(&rt; request.method.as_slice() == b"POST");
                 assert!(&rt; request.url.as_slice() == b"http://b/a");
                 assert!(&rt; request.fields.len() == 3);
-                assert!(&rt; request.fields.get(1).is_some_and(|f| f.0.as_slice() == b"x-y" && f.1.as_slice() == b"Z"));
+                assert!(&rt;
+                    request
+                        .fields
+                        .get(1)
+                        .is_some_and(|f| f.0.as_slice() == b"x-y" && f.1.as_slice() == b"Z")
+                );
                 assert!(&rt; request.body.is_some_and(|b| b.as_slice() == b"cd"));
             }
             _ => assert!(&rt; false, "at {cut}"),

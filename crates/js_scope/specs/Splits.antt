@@ -29,7 +29,7 @@ SplitsFunction old f new = IsSplit old (early.of_function f) (weight.of_function
 -- an arrow is taken apart
 abbrev pub SplitsArrow : List Task → Bool → List Name → ArrowBody → List Task → Type 0
 SplitsArrow old is_async ns b new =
-  IsSplit old
+    IsSplit old
     (early.function_of is_async ns (early.of_arrow b))
     (weight.part (weight.names ns) + weight.of_arrow b)
     new
@@ -41,7 +41,7 @@ SplitsExprs old xs new = IsSplit old (early.concat (map early.of_expr xs)) (weig
 -- the parts of a template are taken apart
 abbrev pub SplitsTemplate : List Task → List TemplateItem → List Task → Type 0
 SplitsTemplate old parts new =
-  IsSplit old
+    IsSplit old
     (early.concat (map early.of_template parts))
     (weight.parts (map weight.of_template parts))
     new
@@ -53,7 +53,7 @@ SplitsProperty old x new = IsSplit old (early.of_property x) (weight.of_property
 -- properties are taken apart
 abbrev pub SplitsProperties : List Task → List Property → List Task → Type 0
 SplitsProperties old xs new =
-  IsSplit old
+    IsSplit old
     (early.concat (map early.of_property xs))
     (weight.parts (map weight.of_property xs))
     new
@@ -61,7 +61,7 @@ SplitsProperties old xs new =
 -- an expression is taken apart, where there is one
 abbrev pub SplitsOptionalExpr : List Task → Option Expr → List Task → Type 0
 SplitsOptionalExpr old x new =
-  IsSplit old
+    IsSplit old
     (early.optional (option_map early.of_expr x))
     (weight.optional (option_map weight.of_expr x))
     new
@@ -73,7 +73,7 @@ SplitsDeclaration old d new = IsSplit old (early.of_declaration d) (weight.of_de
 -- declarations are taken apart
 abbrev pub SplitsDeclarations : List Task → List Declaration → List Task → Type 0
 SplitsDeclarations old ds new =
-  IsSplit old
+    IsSplit old
     (early.concat (map early.of_declaration ds))
     (weight.parts (map weight.of_declaration ds))
     new
@@ -85,7 +85,7 @@ SplitsStmts old ss new = IsSplit old (early.concat (map early.of_stmt ss)) (weig
 -- statements in a scope of their own are taken apart
 abbrev pub SplitsScope : List Task → ScopeKind → List Stmt → List Task → Type 0
 SplitsScope old how ss new =
-  IsSplit old
+    IsSplit old
     (inside how (early.concat (map early.of_stmt ss)))
     (weight.part (weight.parts (map weight.of_stmt ss)))
     new
@@ -97,7 +97,7 @@ SplitsBody old how s new = IsSplit old (inside how (early.of_stmt s)) (weight.pa
 -- the `else` of an `if` is taken apart, where there is one
 abbrev pub SplitsElse : List Task → Option Stmt → List Task → Type 0
 SplitsElse old s new =
-  IsSplit old
+    IsSplit old
     (early.else_of (option_map early.of_stmt s))
     (weight.optional (option_map weight.of_stmt s))
     new
@@ -105,17 +105,17 @@ SplitsElse old s new =
 -- a `for` is taken apart
 abbrev pub SplitsFor : List Task → ForBegin → Option Expr → Option Expr → Stmt → List Task → Type 0
 SplitsFor old b test update body new =
-  IsSplit old
+    IsSplit old
     (early.scope (early.of_begin b ++ early.optional (option_map early.of_expr test)
-      ++ early.optional (option_map early.of_expr update) ++ early.loop_body (early.of_stmt body)))
+    ++ early.optional (option_map early.of_expr update) ++ early.loop_body (early.of_stmt body)))
     (weight.part (weight.of_begin b) + weight.optional (option_map weight.of_expr test)
-      + weight.optional (option_map weight.of_expr update) + weight.part (weight.of_stmt body))
+    + weight.optional (option_map weight.of_expr update) + weight.part (weight.of_stmt body))
     new
 
 -- a `for` with `of` is taken apart
 abbrev pub SplitsForOf : List Task → Name → Expr → Stmt → List Task → Type 0
 SplitsForOf old n x body new =
-  IsSplit old
+    IsSplit old
     (early.scope (early.Declares n ∷ early.of_expr x ++ early.loop_body (early.of_stmt body)))
     (weight.part 0 + weight.part (weight.of_expr x) + weight.part (weight.of_stmt body))
     new
@@ -123,7 +123,7 @@ SplitsForOf old n x body new =
 -- a `catch` is taken apart, where there is one
 abbrev pub SplitsCatch : List Task → Option Catch → List Task → Type 0
 SplitsCatch old c new =
-  IsSplit old
+    IsSplit old
     (early.optional (option_map early.of_catch c))
     (weight.optional (option_map weight.of_catch c))
     new
@@ -131,7 +131,7 @@ SplitsCatch old c new =
 -- a `finally` is taken apart, where there is one
 abbrev pub SplitsFinally : List Task → Option (List Stmt) → List Task → Type 0
 SplitsFinally old ss new =
-  IsSplit old
+    IsSplit old
     (early.finally_of (option_map (map early.of_stmt) ss))
     (weight.finally_of (option_map (map weight.of_stmt) ss))
     new
@@ -139,26 +139,26 @@ SplitsFinally old ss new =
 -- an `if` is taken apart
 abbrev pub SplitsIf : List Task → Expr → Stmt → Option Stmt → List Task → Type 0
 SplitsIf old test branch other new =
-  IsSplit old
+    IsSplit old
     (early.of_expr test ++ early.scope (early.of_stmt branch) ++ early.else_of (option_map early.of_stmt other))
     (weight.part (weight.of_expr test) + weight.part (weight.of_stmt branch)
-      + weight.optional (option_map weight.of_stmt other))
+    + weight.optional (option_map weight.of_stmt other))
     new
 
 -- a `try` is taken apart
 abbrev pub SplitsTry : List Task → List Stmt → Option Catch → Option (List Stmt) → List Task → Type 0
 SplitsTry old ss c last new =
-  IsSplit old
+    IsSplit old
     (early.block (map early.of_stmt ss) ++ early.optional (option_map early.of_catch c)
-      ++ early.finally_of (option_map (map early.of_stmt) last))
+    ++ early.finally_of (option_map (map early.of_stmt) last))
     (weight.part (weight.parts (map weight.of_stmt ss)) + weight.optional (option_map weight.of_catch c)
-      + weight.finally_of (option_map (map weight.of_stmt) last))
+    + weight.finally_of (option_map (map weight.of_stmt) last))
     new
 
 -- the items of a script are taken apart
 abbrev pub SplitsItems : List Task → List Item → List Task → Type 0
 SplitsItems old items new =
-  IsSplit old
+    IsSplit old
     (early.concat (map early.of_item items))
     (weight.parts (map weight.of_item items))
     new

@@ -1,7 +1,5 @@
-use Rattle.std.proofs.Common.{rules, ◌≡◌, ◌≤◌, length, drop, IfOk, None, Some, ℕ, ◌+◌, ◌-◌, ◌*◌, ◌<◌, ◌/◌, ◌%◌, Bool, true, false, nat_eq, nat_lt, List, [], ◌∷◌, ◌++◌, slice_index_or, slice_set, bit_and, bit_or, Fits, w8, w32, w64, Bor, MutBor}
-use Rattle.http_message.specs.declared.extent.Extent.TheVariants as extents
-use Rattle.http_in.specs.Steps.{IsBegun, MayBegin, Sees}
-use Rattle.std.proofs.Common.{arith, ap, take, ◌∙◌, drop-drop}
+use Rattle.std.proofs.Common.{length, Some}
+use Rattle.std.proofs.Common.{arith, ap, take, ◌∙◌}
 use Rattle.std.proofs.lemmas.List.{take_rest}
 use Rattle.http_in.proofs.BegunSteps.{counted_later, counted_whole}
 use Rattle.http_in.proofs.request.read_counted.Goals as goal

@@ -1,6 +1,4 @@
-use Rattle.std.proofs.Common.{rules, ◌≡◌, [], IfOk, OnErr, ℕ, ◌+◌, ◌-◌, ◌*◌, ◌<◌, ◌≤◌, length, ◌/◌, ◌%◌, Bool, true, false, nat_eq, nat_lt, List, ◌∷◌, ◌++◌, slice_index_or, slice_set, bit_and, bit_or, Fits, w8, w32, w64, Bor, MutBor}
-use Rattle.http_in.specs.Conn.{Feeds}
-use Rattle.http_in.specs.Stream.{status_of}
+use Rattle.std.proofs.Common.{rules, ◌≡◌, ◌++◌}
 use Rattle.http_in.specs.declared.conn.Phase.TheVariants as phases
 use Rattle.http_in.proofs.BegunSteps.{may_more}
 use Rattle.std.proofs.Common.{refl, subst}
