@@ -11,6 +11,7 @@ pub record Link : Type 0 where
   pub queue : List ℕ
   pub phase : Phase
 
+-- whether further requests are read behind one, by whether it closes the link
 abbrev pub phase_after : Bool → Phase
 phase_after true = phase.Closed
 phase_after false = phase.Open
@@ -21,6 +22,7 @@ FeedsOpen bytes (fed.Request r close) new = Reads bytes r close new.queue × (ne
 FeedsOpen bytes fed.Later new = (new.queue ≡ bytes) × (new.phase ≡ phase.Open) × IsUnfinished bytes
 FeedsOpen bytes (fed.Bad code) new = (new.phase ≡ phase.Bad code) × (new.queue ≡ bytes) × IsFault bytes code
 
+-- the same in each phase: behind a closing request nothing is read, and a refusal stands
 abbrev pub FeedsAt : Phase → Link → List ℕ → Fed → Link → Type 0
 FeedsAt phase.Open old piece f new = FeedsOpen (old.queue ++ piece) f new
 FeedsAt phase.Closed old piece f new = (f ≡ fed.Later) × (new ≡ old)

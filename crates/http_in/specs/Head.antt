@@ -51,6 +51,7 @@ abbrev pub url_by : List (List ℕ) → List ℕ → Option (List ℕ)
 url_by (host ∷ []) target = url_of_bytes (url_bytes host target)
 url_by hosts target = None
 
+-- the text of the URL that a head asks for, by its Host fields and its target
 unfoldable pub url_of : RequestHead → Option (List ℕ)
 url_of head = url_by (values_of (codes "host") (pairs_of head)) head.target
 

@@ -27,6 +27,7 @@ RefusesBody extent.Chunked bytes why = RefusesChunked bytes why
 abbrev pub small_names : Pairs → Pairs
 small_names fields = map (λ f. (map to_ascii_lowercase f.0, f.1)) fields
 
+-- what the journal has of a head with this URL and this body: field names are in small letters
 abbrev pub request_of : RequestHead → List ℕ → Option (List ℕ) → ReqData
 request_of head url body = record { method = head.method; url = url; fields = small_names (pairs_of head); body = body }
 

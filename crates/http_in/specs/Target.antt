@@ -4,9 +4,11 @@ use Rattle.httparse.specs.Grammar.{is_token_byte, is_uri_byte}
 use Rattle.http_in.specs.declared.target.Place.{Place}
 use Rattle.http_in.specs.declared.target.Place.TheVariants as place
 
+-- where a byte leads that stands at the begin of a method or in one
 abbrev pub in_method : ℕ → Place
 in_method byte = if is_token_byte byte then place.Method else place.Other
 
+-- where a byte leads that stands at the begin of a target or in one
 abbrev pub in_target : ℕ → Place
 in_target byte = if is_uri_byte byte then place.Target else place.Other
 

@@ -18,6 +18,7 @@ is_number text = nat_lt 0 (length text) && list_all is_ascii_digit text
 abbrev pub limited : ℕ → Result Extent Refusal
 limited size = if nat_le size max_body then Ok (extent.Length size) else Err refusal.TooLarge
 
+-- how far a body goes by the one Content-Length that stands (RFC 9110, section 8.6)
 abbrev pub by_length : List ℕ → Result Extent Refusal
 by_length value = if is_number value then limited (digits_value 10 value) else Err refusal.Malformed
 
@@ -32,6 +33,7 @@ extent_by (value ∷ []) [] = by_length value
 extent_by [] (value ∷ []) = by_coding value
 extent_by lengths codings = Err refusal.Malformed
 
+-- how far the body goes behind a head with these fields, or why they are refused
 unfoldable pub extent_of : Pairs → Result Extent Refusal
 extent_of fields = extent_by (values_of (codes "content-length") fields) (values_of (codes "transfer-encoding") fields)
 

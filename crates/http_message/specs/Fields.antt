@@ -7,6 +7,7 @@ use Rattle.httparse.specs.Spans.{span_bytes, IsWithin}
 use Rattle.http_message.specs.declared.fields.Found.{Found}
 use Rattle.http_message.specs.declared.fields.Found.TheVariants as found
 
+-- names and values of fields, in their order
 abbrev pub Pairs : Type 0
 Pairs = List (List ℕ × List ℕ)
 

@@ -14,6 +14,7 @@ pub record HasSection (bytes : List ℕ) (fields : List Field) (rest : List ℕ)
 abbrev pub IsPastRoom : List ℕ → Type 0
 IsPastRoom bytes = (fields : List Field) (rest : List ℕ) → HasSection bytes fields rest → max_fields < length fields
 
+-- what the parser found: none yet, a section of so many bytes, one of too many fields, or none ever
 abbrev pub IsSectionIn : List ℕ → Section → Type 0
 IsSectionIn bytes section.Later = HasNoSection bytes × MayBecomeSection bytes
 IsSectionIn bytes (section.Whole size) =
