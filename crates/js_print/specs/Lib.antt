@@ -2,3 +2,4 @@ pub mod TokenText
 pub mod Printed
 pub mod Same
 pub mod Walk
+pub mod Splits

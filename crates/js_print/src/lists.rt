@@ -2,6 +2,10 @@ ghost use Rattle.std.specs.Prelude.{[], ◌∷◌, ◌+◌, map, option_map, OnO
 ghost use Rattle.js_grammar.specs.Grammar as grammar;
 ghost use Rattle.js_grammar.specs.Marks as marks;
 ghost use Rattle.js_tree.specs.Weight as weight;
+ghost use Rattle.js_print.specs.Splits.{SplitsDeclaration, SplitsDeclarations, SplitsExprs};
+ghost use Rattle.js_print.specs.Splits.{SplitsMoreDeclarations, SplitsNames, SplitsOptionalExpr};
+ghost use Rattle.js_print.specs.Splits.{SplitsProperties, SplitsProperty, SplitsStmts};
+ghost use Rattle.js_print.specs.Splits.{SplitsTemplateRest};
 ghost use Rattle.js_print.specs.Walk.{IsSplit, caught};
 
 use crate::piece::Piece;
@@ -74,7 +78,7 @@ pub(crate) fn split_optional_expr<'a>(
     tasks: &mut Stack<Piece<'a>>,
     expr: &'a Option<Expr>,
 ) -> Result<(), NoMemory>
-    ensures { OnOk result (IsSplit tasks.old (grammar.option_value (option_map grammar.of_expr expr.now)) (weight.optional (option_map weight.of_expr expr.now)) tasks.new) }
+    ensures { OnOk result (SplitsOptionalExpr tasks.old expr.now tasks.new) }
 {
     match expr {
         None => Ok(()),
@@ -88,7 +92,7 @@ pub(crate) fn split_names<'a>(
     tasks: &mut Stack<Piece<'a>>,
     names: &'a [Name],
 ) -> Result<(), NoMemory>
-    ensures { OnOk result (IsSplit tasks.old (marks.listed (map grammar.name_forms names.now)) (weight.names names.now) tasks.new) }
+    ensures { OnOk result (SplitsNames tasks.old names.now tasks.new) }
 {
     match names {
         [] => Ok(()),
@@ -109,7 +113,7 @@ pub(crate) fn split_exprs<'a>(
     tasks: &mut Stack<Piece<'a>>,
     exprs: &'a [Expr],
 ) -> Result<(), NoMemory>
-    ensures { OnOk result (IsSplit tasks.old (marks.listed (grammar.values (map grammar.of_expr exprs.now))) (weight.parts (map weight.of_expr exprs.now)) tasks.new) }
+    ensures { OnOk result (SplitsExprs tasks.old exprs.now tasks.new) }
 {
     match exprs {
         [] => Ok(()),
@@ -130,7 +134,7 @@ pub(crate) fn split_template_rest<'a>(
     items: &'a [TemplateItem],
     last: &'a [u16],
 ) -> Result<(), NoMemory>
-    ensures { OnOk result (IsSplit tasks.old (grammar.template_rest (map grammar.of_template items.now) last.now) (2 + weight.parts (map weight.of_template items.now)) tasks.new) }
+    ensures { OnOk result (SplitsTemplateRest tasks.old items.now last.now tasks.new) }
 {
     match items {
         [] => put(tasks, &[Piece::Part(TemplatePart::Tail, last)]),
@@ -150,7 +154,7 @@ pub(crate) fn split_property<'a>(
     tasks: &mut Stack<Piece<'a>>,
     property: &'a Property,
 ) -> Result<(), NoMemory>
-    ensures { OnOk result (IsSplit tasks.old (grammar.of_property property.now) (weight.of_property property.now) tasks.new) }
+    ensures { OnOk result (SplitsProperty tasks.old property.now tasks.new) }
 {
     match property {
         Property::Pair(key, value) => put(
@@ -179,7 +183,7 @@ pub(crate) fn split_properties<'a>(
     tasks: &mut Stack<Piece<'a>>,
     properties: &'a [Property],
 ) -> Result<(), NoMemory>
-    ensures { OnOk result (IsSplit tasks.old (marks.listed (map grammar.of_property properties.now)) (weight.parts (map weight.of_property properties.now)) tasks.new) }
+    ensures { OnOk result (SplitsProperties tasks.old properties.now tasks.new) }
 {
     match properties {
         [] => Ok(()),
@@ -199,7 +203,7 @@ pub(crate) fn split_declaration<'a>(
     tasks: &mut Stack<Piece<'a>>,
     declaration: &'a Declaration,
 ) -> Result<(), NoMemory>
-    ensures { OnOk result (IsSplit tasks.old (grammar.of_declaration declaration.now) (weight.of_declaration declaration.now) tasks.new) }
+    ensures { OnOk result (SplitsDeclaration tasks.old declaration.now tasks.new) }
 {
     match &declaration.value {
         None => put(tasks, &[Piece::Name(&declaration.name)]),
@@ -220,7 +224,7 @@ pub(crate) fn split_declarations<'a>(
     tasks: &mut Stack<Piece<'a>>,
     declarations: &'a [Declaration],
 ) -> Result<(), NoMemory>
-    ensures { OnOk result (IsSplit tasks.old (marks.separated (map grammar.of_declaration declarations.now)) (weight.parts (map weight.of_declaration declarations.now)) tasks.new) }
+    ensures { OnOk result (SplitsDeclarations tasks.old declarations.now tasks.new) }
 {
     match declarations {
         [] => Ok(()),
@@ -237,7 +241,7 @@ pub(crate) fn split_more_declarations<'a>(
     tasks: &mut Stack<Piece<'a>>,
     declarations: &'a [Declaration],
 ) -> Result<(), NoMemory>
-    ensures { OnOk result (IsSplit tasks.old (marks.more (map grammar.of_declaration declarations.now)) (weight.parts (map weight.of_declaration declarations.now)) tasks.new) }
+    ensures { OnOk result (SplitsMoreDeclarations tasks.old declarations.now tasks.new) }
 {
     match declarations {
         [] => Ok(()),
@@ -258,7 +262,7 @@ pub(crate) fn split_stmts<'a>(
     tasks: &mut Stack<Piece<'a>>,
     stmts: &'a [Stmt],
 ) -> Result<(), NoMemory>
-    ensures { OnOk result (IsSplit tasks.old (grammar.statements (map grammar.of_stmt stmts.now)) (weight.parts (map weight.of_stmt stmts.now)) tasks.new) }
+    ensures { OnOk result (SplitsStmts tasks.old stmts.now tasks.new) }
 {
     match stmts {
         [] => Ok(()),

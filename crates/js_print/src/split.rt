@@ -2,6 +2,8 @@ ghost use Rattle.std.specs.Prelude.{◌≡◌, ◌++◌, [], ◌∷◌, ◌+◌,
 ghost use Rattle.js_grammar.specs.Grammar as grammar;
 ghost use Rattle.js_tree.specs.Weight as weight;
 ghost use Rattle.js_tree.specs.declared.tree.Expr.TheVariants as exprs;
+ghost use Rattle.js_print.specs.Splits.{SplitsArrowParameters, SplitsExpr, SplitsFunction};
+ghost use Rattle.js_print.specs.Splits.{SplitsTarget, SplitsTemplate, SplitsUnary, SplitsUpdate};
 ghost use Rattle.js_print.specs.Walk.{IsSplit};
 
 use crate::piece::Piece;
@@ -70,7 +72,7 @@ pub(crate) fn split_target<'a>(
     tasks: &mut Stack<Piece<'a>>,
     target: &'a Target,
 ) -> Result<(), NoMemory>
-    ensures { OnOk result (IsSplit tasks.old (grammar.of_target target.now).forms (weight.of_target target.now) tasks.new) }
+    ensures { OnOk result (SplitsTarget tasks.old target.now tasks.new) }
 {
     match target {
         Target::Variable(name) => put(tasks, &[Piece::Name(name)]),
@@ -99,7 +101,7 @@ pub(crate) fn split_function<'a>(
     tasks: &mut Stack<Piece<'a>>,
     function: &'a Function,
 ) -> Result<(), NoMemory>
-    ensures { OnOk result (IsSplit tasks.old (grammar.of_function function.now).forms (weight.of_function function.now) tasks.new) }
+    ensures { OnOk result (SplitsFunction tasks.old function.now tasks.new) }
 {
     put(
         tasks,
@@ -133,7 +135,7 @@ pub(crate) fn split_arrow_parameters<'a>(
     tasks: &mut Stack<Piece<'a>>,
     names: &'a [Name],
 ) -> Result<(), NoMemory>
-    ensures { OnOk result (IsSplit tasks.old (grammar.arrow_parameters names.now) (4 + weight.names names.now) tasks.new) }
+    ensures { OnOk result (SplitsArrowParameters tasks.old names.now tasks.new) }
 {
     match names {
         [] => put_parameters(tasks, names),
@@ -172,7 +174,7 @@ fn put_template<'a>(
     items: &'a [TemplateItem],
     last: &'a [u16],
 ) -> Result<(), NoMemory>
-    ensures { OnOk result (IsSplit tasks.old (grammar.template (map grammar.of_template items.now) last.now) (weight.node (weight.part (weight.parts (map weight.of_template items.now)))) tasks.new) }
+    ensures { OnOk result (SplitsTemplate tasks.old items.now last.now tasks.new) }
 {
     match items {
         [] => put(tasks, &[Piece::Part(TemplatePart::Whole, last)]),
@@ -189,7 +191,7 @@ fn put_template<'a>(
 
 /// Puts an operator and its operand on the tasks.
 fn put_unary<'a>(tasks: &mut Stack<Piece<'a>>, op: UnaryOp, value: &'a Expr) -> Result<(), NoMemory>
-    ensures { OnOk result (IsSplit tasks.old (grammar.unary_form op ∷ (grammar.of_expr value.now).forms) (2 + weight.of_expr value.now) tasks.new) }
+    ensures { OnOk result (SplitsUnary tasks.old op value.now tasks.new) }
 {
     match op {
         UnaryOp::Not => put(tasks, &[Piece::Sign(Punctuator::Not), Piece::Expr(value)]),
@@ -205,7 +207,7 @@ fn put_update<'a>(
     op: UpdateOp,
     target: &'a Target,
 ) -> Result<(), NoMemory>
-    ensures { OnOk result (IsSplit tasks.old (grammar.update_forms side op (grammar.of_target target.now)) (2 + weight.of_target target.now) tasks.new) }
+    ensures { OnOk result (SplitsUpdate tasks.old side op target.now tasks.new) }
 {
     let sign = update_sign(op);
     match side {
@@ -216,7 +218,7 @@ fn put_update<'a>(
 
 /// Puts an array on the tasks.
 fn put_array<'a>(tasks: &mut Stack<Piece<'a>>, items: &'a Seq<Expr>) -> Result<(), NoMemory>
-    ensures { OnOk result (IsSplit tasks.old (grammar.of_expr (exprs.Array items.now)).forms (weight.of_expr (exprs.Array items.now)) tasks.new) }
+    ensures { OnOk result (SplitsExpr tasks.old (exprs.Array items.now) tasks.new) }
 {
     put(
         tasks,
@@ -233,7 +235,7 @@ fn put_object<'a>(
     tasks: &mut Stack<Piece<'a>>,
     properties: &'a Seq<Property>,
 ) -> Result<(), NoMemory>
-    ensures { OnOk result (IsSplit tasks.old (grammar.of_expr (exprs.Object properties.now)).forms (weight.of_expr (exprs.Object properties.now)) tasks.new) }
+    ensures { OnOk result (SplitsExpr tasks.old (exprs.Object properties.now) tasks.new) }
 {
     put(
         tasks,
@@ -251,7 +253,7 @@ fn put_function<'a>(
     name: &'a Option<Name>,
     function: &'a Function,
 ) -> Result<(), NoMemory>
-    ensures { OnOk result (IsSplit tasks.old (grammar.of_expr (exprs.Function name.now function.now)).forms (weight.of_expr (exprs.Function name.now function.now)) tasks.new) }
+    ensures { OnOk result (SplitsExpr tasks.old (exprs.Function name.now function.now) tasks.new) }
 {
     put(
         tasks,
@@ -271,7 +273,7 @@ fn put_arrow<'a>(
     parameters: &'a Seq<Name>,
     body: &'a ArrowBody,
 ) -> Result<(), NoMemory>
-    ensures { OnOk result (IsSplit tasks.old (grammar.of_expr (exprs.Arrow is_async parameters.now body.now)).forms (weight.of_expr (exprs.Arrow is_async parameters.now body.now)) tasks.new) }
+    ensures { OnOk result (SplitsExpr tasks.old (exprs.Arrow is_async parameters.now body.now) tasks.new) }
 {
     put(
         tasks,
@@ -285,7 +287,7 @@ fn put_arrow<'a>(
 
 /// Puts an expression in parentheses on the tasks.
 fn put_group<'a>(tasks: &mut Stack<Piece<'a>>, inner: &'a Boxed<Expr>) -> Result<(), NoMemory>
-    ensures { OnOk result (IsSplit tasks.old (grammar.of_expr (exprs.Group inner.now)).forms (weight.of_expr (exprs.Group inner.now)) tasks.new) }
+    ensures { OnOk result (SplitsExpr tasks.old (exprs.Group inner.now) tasks.new) }
 {
     put(
         tasks,
@@ -304,7 +306,7 @@ fn put_binary<'a>(
     left: &'a Boxed<Expr>,
     right: &'a Boxed<Expr>,
 ) -> Result<(), NoMemory>
-    ensures { OnOk result (IsSplit tasks.old (grammar.of_expr (exprs.Binary op left.now right.now)).forms (weight.of_expr (exprs.Binary op left.now right.now)) tasks.new) }
+    ensures { OnOk result (SplitsExpr tasks.old (exprs.Binary op left.now right.now) tasks.new) }
 {
     put(
         tasks,
@@ -323,7 +325,7 @@ fn put_conditional<'a>(
     yes: &'a Boxed<Expr>,
     no: &'a Boxed<Expr>,
 ) -> Result<(), NoMemory>
-    ensures { OnOk result (IsSplit tasks.old (grammar.of_expr (exprs.Conditional test.now yes.now no.now)).forms (weight.of_expr (exprs.Conditional test.now yes.now no.now)) tasks.new) }
+    ensures { OnOk result (SplitsExpr tasks.old (exprs.Conditional test.now yes.now no.now) tasks.new) }
 {
     put(
         tasks,
@@ -344,7 +346,7 @@ fn put_assign<'a>(
     target: &'a Target,
     value: &'a Boxed<Expr>,
 ) -> Result<(), NoMemory>
-    ensures { OnOk result (IsSplit tasks.old (grammar.of_expr (exprs.Assign op target.now value.now)).forms (weight.of_expr (exprs.Assign op target.now value.now)) tasks.new) }
+    ensures { OnOk result (SplitsExpr tasks.old (exprs.Assign op target.now value.now) tasks.new) }
 {
     put(
         tasks,
@@ -362,7 +364,7 @@ fn put_call<'a>(
     callee: &'a Boxed<Expr>,
     arguments: &'a Seq<Expr>,
 ) -> Result<(), NoMemory>
-    ensures { OnOk result (IsSplit tasks.old (grammar.of_expr (exprs.Call callee.now arguments.now)).forms (weight.of_expr (exprs.Call callee.now arguments.now)) tasks.new) }
+    ensures { OnOk result (SplitsExpr tasks.old (exprs.Call callee.now arguments.now) tasks.new) }
 {
     put(
         tasks,
@@ -381,7 +383,7 @@ fn put_new<'a>(
     name: &'a Name,
     arguments: &'a Seq<Expr>,
 ) -> Result<(), NoMemory>
-    ensures { OnOk result (IsSplit tasks.old (grammar.of_expr (exprs.New name.now arguments.now)).forms (weight.of_expr (exprs.New name.now arguments.now)) tasks.new) }
+    ensures { OnOk result (SplitsExpr tasks.old (exprs.New name.now arguments.now) tasks.new) }
 {
     put(
         tasks,
@@ -401,7 +403,7 @@ fn put_member<'a>(
     object: &'a Boxed<Expr>,
     name: &'a Name,
 ) -> Result<(), NoMemory>
-    ensures { OnOk result (IsSplit tasks.old (grammar.of_expr (exprs.Member object.now name.now)).forms (weight.of_expr (exprs.Member object.now name.now)) tasks.new) }
+    ensures { OnOk result (SplitsExpr tasks.old (exprs.Member object.now name.now) tasks.new) }
 {
     put(
         tasks,
@@ -419,7 +421,7 @@ fn put_index<'a>(
     object: &'a Boxed<Expr>,
     key: &'a Boxed<Expr>,
 ) -> Result<(), NoMemory>
-    ensures { OnOk result (IsSplit tasks.old (grammar.of_expr (exprs.Index object.now key.now)).forms (weight.of_expr (exprs.Index object.now key.now)) tasks.new) }
+    ensures { OnOk result (SplitsExpr tasks.old (exprs.Index object.now key.now) tasks.new) }
 {
     put(
         tasks,

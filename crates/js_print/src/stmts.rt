@@ -2,6 +2,7 @@ ghost use Rattle.std.specs.Prelude.{◌≡◌, ◌+◌, map, option_map, OnOk};
 ghost use Rattle.js_grammar.specs.Grammar as grammar;
 ghost use Rattle.js_tree.specs.Weight as weight;
 ghost use Rattle.js_tree.specs.declared.tree.Stmt.TheVariants as stmts;
+ghost use Rattle.js_print.specs.Splits.{SplitsCatch, SplitsElse, SplitsFinally, SplitsStmt};
 ghost use Rattle.js_print.specs.Walk.{IsSplit};
 
 use crate::piece::Piece;
@@ -47,7 +48,7 @@ pub(crate) fn split_else<'a>(
     tasks: &mut Stack<Piece<'a>>,
     stmt: &'a Option<Boxed<Stmt>>,
 ) -> Result<(), NoMemory>
-    ensures { OnOk result (IsSplit tasks.old (grammar.option_else (option_map grammar.of_stmt stmt.now)) (weight.optional (option_map weight.of_stmt stmt.now)) tasks.new) }
+    ensures { OnOk result (SplitsElse tasks.old stmt.now tasks.new) }
 {
     match stmt {
         None => Ok(()),
@@ -64,7 +65,7 @@ pub(crate) fn split_catch<'a>(
     tasks: &mut Stack<Piece<'a>>,
     catch: &'a Option<Catch>,
 ) -> Result<(), NoMemory>
-    ensures { OnOk result (IsSplit tasks.old (grammar.optional (option_map grammar.of_catch catch.now)) (weight.optional (option_map weight.of_catch catch.now)) tasks.new) }
+    ensures { OnOk result (SplitsCatch tasks.old catch.now tasks.new) }
 {
     match catch {
         None => Ok(()),
@@ -87,7 +88,7 @@ pub(crate) fn split_finally<'a>(
     tasks: &mut Stack<Piece<'a>>,
     stmts: &'a Option<Seq<Stmt>>,
 ) -> Result<(), NoMemory>
-    ensures { OnOk result (IsSplit tasks.old (grammar.option_finally (option_map (map grammar.of_stmt) stmts.now)) (4 + weight.finally_of (option_map (map weight.of_stmt) stmts.now)) tasks.new) }
+    ensures { OnOk result (SplitsFinally tasks.old stmts.now tasks.new) }
 {
     match stmts {
         None => Ok(()),
@@ -109,7 +110,7 @@ fn put_declare<'a>(
     kind: DeclareKind,
     declarations: &'a Seq<Declaration>,
 ) -> Result<(), NoMemory>
-    ensures { OnOk result (IsSplit tasks.old (grammar.of_stmt (stmts.Declare kind declarations.now)).forms (weight.of_stmt (stmts.Declare kind declarations.now)) tasks.new) }
+    ensures { OnOk result (SplitsStmt tasks.old (stmts.Declare kind declarations.now) tasks.new) }
 {
     put(
         tasks,
@@ -127,7 +128,7 @@ fn put_declare_function<'a>(
     name: &'a Name,
     function: &'a Function,
 ) -> Result<(), NoMemory>
-    ensures { OnOk result (IsSplit tasks.old (grammar.of_stmt (stmts.DeclareFunction name.now function.now)).forms (weight.of_stmt (stmts.DeclareFunction name.now function.now)) tasks.new) }
+    ensures { OnOk result (SplitsStmt tasks.old (stmts.DeclareFunction name.now function.now) tasks.new) }
 {
     put(
         tasks,
@@ -142,7 +143,7 @@ fn put_declare_function<'a>(
 
 /// Puts a block on the tasks.
 fn put_block<'a>(tasks: &mut Stack<Piece<'a>>, body: &'a Seq<Stmt>) -> Result<(), NoMemory>
-    ensures { OnOk result (IsSplit tasks.old (grammar.of_stmt (stmts.Block body.now)).forms (weight.of_stmt (stmts.Block body.now)) tasks.new) }
+    ensures { OnOk result (SplitsStmt tasks.old (stmts.Block body.now) tasks.new) }
 {
     put(
         tasks,
@@ -161,7 +162,7 @@ fn put_if<'a>(
     yes: &'a Boxed<Stmt>,
     no: &'a Option<Boxed<Stmt>>,
 ) -> Result<(), NoMemory>
-    ensures { OnOk result (IsSplit tasks.old (grammar.of_stmt (stmts.If test.now yes.now no.now)).forms (weight.of_stmt (stmts.If test.now yes.now no.now)) tasks.new) }
+    ensures { OnOk result (SplitsStmt tasks.old (stmts.If test.now yes.now no.now) tasks.new) }
 {
     put(
         tasks,
@@ -184,7 +185,7 @@ fn put_for<'a>(
     update: &'a Option<Expr>,
     body: &'a Boxed<Stmt>,
 ) -> Result<(), NoMemory>
-    ensures { OnOk result (IsSplit tasks.old (grammar.of_stmt (stmts.For begin.now test.now update.now body.now)).forms (weight.of_stmt (stmts.For begin.now test.now update.now body.now)) tasks.new) }
+    ensures { OnOk result (SplitsStmt tasks.old (stmts.For begin.now test.now update.now body.now) tasks.new) }
 {
     put(
         tasks,
@@ -210,7 +211,7 @@ fn put_for_of<'a>(
     value: &'a Expr,
     body: &'a Boxed<Stmt>,
 ) -> Result<(), NoMemory>
-    ensures { OnOk result (IsSplit tasks.old (grammar.of_stmt (stmts.ForOf kind name.now value.now body.now)).forms (weight.of_stmt (stmts.ForOf kind name.now value.now body.now)) tasks.new) }
+    ensures { OnOk result (SplitsStmt tasks.old (stmts.ForOf kind name.now value.now body.now) tasks.new) }
 {
     put(
         tasks,
@@ -233,7 +234,7 @@ fn put_while<'a>(
     test: &'a Expr,
     body: &'a Boxed<Stmt>,
 ) -> Result<(), NoMemory>
-    ensures { OnOk result (IsSplit tasks.old (grammar.of_stmt (stmts.While test.now body.now)).forms (weight.of_stmt (stmts.While test.now body.now)) tasks.new) }
+    ensures { OnOk result (SplitsStmt tasks.old (stmts.While test.now body.now) tasks.new) }
 {
     put(
         tasks,
@@ -249,7 +250,7 @@ fn put_while<'a>(
 
 /// Puts a `throw` on the tasks.
 fn put_throw<'a>(tasks: &mut Stack<Piece<'a>>, value: &'a Expr) -> Result<(), NoMemory>
-    ensures { OnOk result (IsSplit tasks.old (grammar.of_stmt (stmts.Throw value.now)).forms (weight.of_stmt (stmts.Throw value.now)) tasks.new) }
+    ensures { OnOk result (SplitsStmt tasks.old (stmts.Throw value.now) tasks.new) }
 {
     put(
         tasks,
@@ -268,7 +269,7 @@ fn put_try<'a>(
     catch: &'a Option<Catch>,
     finally: &'a Option<Seq<Stmt>>,
 ) -> Result<(), NoMemory>
-    ensures { OnOk result (IsSplit tasks.old (grammar.of_stmt (stmts.Try body.now catch.now finally.now)).forms (weight.of_stmt (stmts.Try body.now catch.now finally.now)) tasks.new) }
+    ensures { OnOk result (SplitsStmt tasks.old (stmts.Try body.now catch.now finally.now) tasks.new) }
 {
     put(
         tasks,

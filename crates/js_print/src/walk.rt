@@ -6,6 +6,7 @@ ghost use Rattle.js_print.specs.Printed as spec;
 ghost use Rattle.js_print.specs.Same.{Reprinted};
 ghost use Rattle.js_print.specs.TokenText as token;
 ghost use Rattle.js_tree.specs.Weight as weight;
+ghost use Rattle.js_print.specs.Splits.{SplitsItems};
 ghost use Rattle.js_print.specs.Walk.{IsSplit, IsStep, item_forms, kinds};
 
 use crate::lists::{
@@ -132,7 +133,7 @@ fn put_item<'a>(tasks: &mut Stack<Piece<'a>>, item: &'a Item) -> Result<(), NoMe
 
 /// Puts the items of a script on the tasks.
 fn put_items<'a>(tasks: &mut Stack<Piece<'a>>, items: &'a [Item]) -> Result<(), NoMemory>
-    ensures { OnOk result (IsSplit tasks.old (grammar.of_tree items.now) (weight.parts (map weight.of_item items.now)) tasks.new) }
+    ensures { OnOk result (SplitsItems tasks.old items.now tasks.new) }
 {
     let mut left = items.len();
     while left > 0 {
@@ -169,7 +170,7 @@ fn written(alloc: Global, tree: &Tree) -> Result<Units, NoMemory>
 #[tactic(auto, using(crate::proofs::Reprinted::all_reprinted))]
 pub fn print(alloc: Global, tree: &Tree) -> Result<Units, NoMemory>
     ensures text { IfOk result (λ units. units ≡ spec.printed tree.now) }
-    ensures same { IfOk result (λ units. (script : List ℕ) → IsTreeOf tree.now script → Reprinted tree.now units) }
+    ensures same { IfOk result (λ units. (s : List ℕ) → IsTreeOf tree.now s → Reprinted tree.now units) }
 {
     written(alloc, tree)
 }

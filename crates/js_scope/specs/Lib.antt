@@ -1,3 +1,5 @@
 pub mod Early
 pub mod Names
 pub mod Verdict
+pub mod Splits
+pub mod Walks

@@ -1,6 +1,9 @@
 ghost use Rattle.std.specs.Prelude.{map, option_map, OnOk};
 ghost use Rattle.js_scope.specs.Early as early;
 ghost use Rattle.js_tree.specs.Weight as weight;
+ghost use Rattle.js_scope.specs.Splits.{SplitsDeclaration, SplitsDeclarations, SplitsExprs};
+ghost use Rattle.js_scope.specs.Splits.{SplitsOptionalExpr, SplitsProperties, SplitsProperty};
+ghost use Rattle.js_scope.specs.Splits.{SplitsStmts, SplitsTemplate};
 ghost use Rattle.js_scope.specs.Verdict.{IsSplit};
 
 use crate::split::{put, put_function};
@@ -31,7 +34,7 @@ pub(crate) fn split_exprs<'a>(
     tasks: &mut Stack<Task<'a>>,
     exprs: &'a [Expr],
 ) -> Result<(), NoMemory>
-    ensures { OnOk result (IsSplit tasks.old (early.concat (map early.of_expr exprs.now)) (weight.parts (map weight.of_expr exprs.now)) tasks.new) }
+    ensures { OnOk result (SplitsExprs tasks.old exprs.now tasks.new) }
 {
     match exprs {
         [] => Ok(()),
@@ -48,7 +51,7 @@ pub(crate) fn split_template<'a>(
     tasks: &mut Stack<Task<'a>>,
     items: &'a [TemplateItem],
 ) -> Result<(), NoMemory>
-    ensures { OnOk result (IsSplit tasks.old (early.concat (map early.of_template items.now)) (weight.parts (map weight.of_template items.now)) tasks.new) }
+    ensures { OnOk result (SplitsTemplate tasks.old items.now tasks.new) }
 {
     match items {
         [] => Ok(()),
@@ -62,7 +65,7 @@ pub(crate) fn split_template<'a>(
 /// Puts a member of an object literal on the tasks.
 #[tactic(auto, using(crate::proofs::ListSplits::properties))]
 fn put_property<'a>(tasks: &mut Stack<Task<'a>>, property: &'a Property) -> Result<(), NoMemory>
-    ensures { OnOk result (IsSplit tasks.old (early.of_property property.now) (weight.of_property property.now) tasks.new) }
+    ensures { OnOk result (SplitsProperty tasks.old property.now tasks.new) }
 {
     match property {
         Property::Pair(_, value) => put(tasks, Piece::Expr(value)),
@@ -77,7 +80,7 @@ pub(crate) fn split_properties<'a>(
     tasks: &mut Stack<Task<'a>>,
     properties: &'a [Property],
 ) -> Result<(), NoMemory>
-    ensures { OnOk result (IsSplit tasks.old (early.concat (map early.of_property properties.now)) (weight.parts (map weight.of_property properties.now)) tasks.new) }
+    ensures { OnOk result (SplitsProperties tasks.old properties.now tasks.new) }
 {
     match properties {
         [] => Ok(()),
@@ -94,7 +97,7 @@ pub(crate) fn put_optional<'a>(
     tasks: &mut Stack<Task<'a>>,
     expr: &'a Option<Expr>,
 ) -> Result<(), NoMemory>
-    ensures { OnOk result (IsSplit tasks.old (early.optional (option_map early.of_expr expr.now)) (weight.optional (option_map weight.of_expr expr.now)) tasks.new) }
+    ensures { OnOk result (SplitsOptionalExpr tasks.old expr.now tasks.new) }
 {
     match expr {
         None => Ok(()),
@@ -108,7 +111,7 @@ fn put_declaration<'a>(
     tasks: &mut Stack<Task<'a>>,
     declaration: &'a Declaration,
 ) -> Result<(), NoMemory>
-    ensures { OnOk result (IsSplit tasks.old (early.of_declaration declaration.now) (weight.of_declaration declaration.now) tasks.new) }
+    ensures { OnOk result (SplitsDeclaration tasks.old declaration.now tasks.new) }
 {
     put_optional(tasks, &declaration.value)?;
     put(tasks, Piece::Declares(&declaration.name))
@@ -120,7 +123,7 @@ pub(crate) fn split_declarations<'a>(
     tasks: &mut Stack<Task<'a>>,
     declarations: &'a [Declaration],
 ) -> Result<(), NoMemory>
-    ensures { OnOk result (IsSplit tasks.old (early.concat (map early.of_declaration declarations.now)) (weight.parts (map weight.of_declaration declarations.now)) tasks.new) }
+    ensures { OnOk result (SplitsDeclarations tasks.old declarations.now tasks.new) }
 {
     match declarations {
         [] => Ok(()),
@@ -137,7 +140,7 @@ pub(crate) fn split_stmts<'a>(
     tasks: &mut Stack<Task<'a>>,
     stmts: &'a [Stmt],
 ) -> Result<(), NoMemory>
-    ensures { OnOk result (IsSplit tasks.old (early.concat (map early.of_stmt stmts.now)) (weight.parts (map weight.of_stmt stmts.now)) tasks.new) }
+    ensures { OnOk result (SplitsStmts tasks.old stmts.now tasks.new) }
 {
     match stmts {
         [] => Ok(()),

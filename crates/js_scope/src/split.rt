@@ -1,6 +1,7 @@
 ghost use Rattle.std.specs.Prelude.{◌+◌, [], ◌∷◌, ◌++◌, OnOk};
 ghost use Rattle.js_scope.specs.Early as early;
 ghost use Rattle.js_tree.specs.Weight as weight;
+ghost use Rattle.js_scope.specs.Splits.{SplitsArrow, SplitsFunction, SplitsTwo};
 ghost use Rattle.js_scope.specs.Verdict.{IsSplit, piece_marks, piece_weight};
 
 use crate::fault::{EarlyFault, EarlyKind};
@@ -34,7 +35,7 @@ fn put_two<'a>(
     first: &'a Expr,
     second: &'a Expr,
 ) -> Result<(), NoMemory>
-    ensures { OnOk result (IsSplit tasks.old (early.of_expr first.now ++ early.of_expr second.now) (2 + weight.of_expr first.now + weight.of_expr second.now) tasks.new) }
+    ensures { OnOk result (SplitsTwo tasks.old first.now second.now tasks.new) }
 {
     put(tasks, Piece::Expr(second))?;
     put(tasks, Piece::Expr(first))
@@ -58,7 +59,7 @@ pub(crate) fn put_function<'a>(
     tasks: &mut Stack<Task<'a>>,
     function: &'a Function,
 ) -> Result<(), NoMemory>
-    ensures { OnOk result (IsSplit tasks.old (early.of_function function.now) (weight.of_function function.now) tasks.new) }
+    ensures { OnOk result (SplitsFunction tasks.old function.now tasks.new) }
 {
     tasks.push(Task::Leave)?;
     put(tasks, Piece::Stmts(function.body.as_slice()))?;
@@ -84,7 +85,7 @@ fn put_arrow<'a>(
     parameters: &'a [Name],
     body: &'a ArrowBody,
 ) -> Result<(), NoMemory>
-    ensures { OnOk result (IsSplit tasks.old (early.function_of is_async parameters.now (early.of_arrow body.now)) (weight.part (weight.names parameters.now) + weight.of_arrow body.now) tasks.new) }
+    ensures { OnOk result (SplitsArrow tasks.old is_async parameters.now body.now tasks.new) }
 {
     tasks.push(Task::Leave)?;
     put_arrow_body(tasks, body)?;

@@ -1,7 +1,9 @@
 ghost use Rattle.std.specs.Prelude.{◌+◌, ◌∷◌, ◌++◌, map, option_map, OnOk};
 ghost use Rattle.js_scope.specs.Early as early;
 ghost use Rattle.js_tree.specs.Weight as weight;
-ghost use Rattle.js_scope.specs.Verdict.{IsSplit, inside};
+ghost use Rattle.js_scope.specs.Splits.{SplitsBody, SplitsCatch, SplitsElse, SplitsFinally};
+ghost use Rattle.js_scope.specs.Splits.{SplitsFor, SplitsForOf, SplitsIf, SplitsScope, SplitsTry};
+ghost use Rattle.js_scope.specs.Verdict.{IsSplit};
 
 use crate::fault::EarlyKind;
 use crate::lists::put_optional;
@@ -18,7 +20,7 @@ fn put_block<'a>(
     how: ScopeKind,
     stmts: &'a [Stmt],
 ) -> Result<(), NoMemory>
-    ensures { OnOk result (IsSplit tasks.old (inside how (early.concat (map early.of_stmt stmts.now))) (weight.part (weight.parts (map weight.of_stmt stmts.now))) tasks.new) }
+    ensures { OnOk result (SplitsScope tasks.old how stmts.now tasks.new) }
 {
     tasks.push(Task::Leave)?;
     put(tasks, Piece::Stmts(stmts))?;
@@ -28,7 +30,7 @@ fn put_block<'a>(
 /// Puts a statement on the tasks that stands in a scope of its own.
 #[tactic(auto, using(crate::proofs::Splits::on_body))]
 fn put_body<'a>(tasks: &mut Stack<Task<'a>>, how: ScopeKind, stmt: &'a Stmt) -> Result<(), NoMemory>
-    ensures { OnOk result (IsSplit tasks.old (inside how (early.of_stmt stmt.now)) (weight.part (weight.of_stmt stmt.now)) tasks.new) }
+    ensures { OnOk result (SplitsBody tasks.old how stmt.now tasks.new) }
 {
     tasks.push(Task::Leave)?;
     put(tasks, Piece::Stmt(stmt))?;
@@ -38,7 +40,7 @@ fn put_body<'a>(tasks: &mut Stack<Task<'a>>, how: ScopeKind, stmt: &'a Stmt) -> 
 /// Puts what stands behind `else` on the tasks.
 #[tactic(auto, using(crate::proofs::StmtSplits::elses))]
 fn put_else<'a>(tasks: &mut Stack<Task<'a>>, stmt: &'a Option<Boxed<Stmt>>) -> Result<(), NoMemory>
-    ensures { OnOk result (IsSplit tasks.old (early.else_of (option_map early.of_stmt stmt.now)) (weight.optional (option_map weight.of_stmt stmt.now)) tasks.new) }
+    ensures { OnOk result (SplitsElse tasks.old stmt.now tasks.new) }
 {
     match stmt {
         None => Ok(()),
@@ -69,7 +71,7 @@ fn put_for<'a>(
     update: &'a Option<Expr>,
     body: &'a Stmt,
 ) -> Result<(), NoMemory>
-    ensures { OnOk result (IsSplit tasks.old (early.scope (early.of_begin begin.now ++ early.optional (option_map early.of_expr test.now) ++ early.optional (option_map early.of_expr update.now) ++ early.loop_body (early.of_stmt body.now))) (weight.part (weight.of_begin begin.now) + weight.optional (option_map weight.of_expr test.now) + weight.optional (option_map weight.of_expr update.now) + weight.part (weight.of_stmt body.now)) tasks.new) }
+    ensures { OnOk result (SplitsFor tasks.old begin.now test.now update.now body.now tasks.new) }
 {
     tasks.push(Task::Leave)?;
     put_body(tasks, ScopeKind::Loop, body)?;
@@ -87,7 +89,7 @@ fn put_for_of<'a>(
     value: &'a Expr,
     body: &'a Stmt,
 ) -> Result<(), NoMemory>
-    ensures { OnOk result (IsSplit tasks.old (early.scope (early.Declares name.now ∷ early.of_expr value.now ++ early.loop_body (early.of_stmt body.now))) (weight.part 0 + weight.part (weight.of_expr value.now) + weight.part (weight.of_stmt body.now)) tasks.new) }
+    ensures { OnOk result (SplitsForOf tasks.old name.now value.now body.now tasks.new) }
 {
     tasks.push(Task::Leave)?;
     put_body(tasks, ScopeKind::Loop, body)?;
@@ -121,7 +123,7 @@ fn put_caught<'a>(tasks: &mut Stack<Task<'a>>, catch: &'a Catch) -> Result<(), N
 /// Puts a `catch` on the tasks, where there is one.
 #[tactic(auto, using(crate::proofs::StmtSplits::catches))]
 fn put_catch<'a>(tasks: &mut Stack<Task<'a>>, catch: &'a Option<Catch>) -> Result<(), NoMemory>
-    ensures { OnOk result (IsSplit tasks.old (early.optional (option_map early.of_catch catch.now)) (weight.optional (option_map weight.of_catch catch.now)) tasks.new) }
+    ensures { OnOk result (SplitsCatch tasks.old catch.now tasks.new) }
 {
     match catch {
         None => Ok(()),
@@ -135,7 +137,7 @@ fn put_finally<'a>(
     tasks: &mut Stack<Task<'a>>,
     stmts: &'a Option<Seq<Stmt>>,
 ) -> Result<(), NoMemory>
-    ensures { OnOk result (IsSplit tasks.old (early.finally_of (option_map (map early.of_stmt) stmts.now)) (weight.finally_of (option_map (map weight.of_stmt) stmts.now)) tasks.new) }
+    ensures { OnOk result (SplitsFinally tasks.old stmts.now tasks.new) }
 {
     match stmts {
         None => Ok(()),
@@ -151,7 +153,7 @@ fn put_if<'a>(
     yes: &'a Stmt,
     no: &'a Option<Boxed<Stmt>>,
 ) -> Result<(), NoMemory>
-    ensures { OnOk result (IsSplit tasks.old (early.of_expr test.now ++ early.scope (early.of_stmt yes.now) ++ early.else_of (option_map early.of_stmt no.now)) (weight.part (weight.of_expr test.now) + weight.part (weight.of_stmt yes.now) + weight.optional (option_map weight.of_stmt no.now)) tasks.new) }
+    ensures { OnOk result (SplitsIf tasks.old test.now yes.now no.now tasks.new) }
 {
     put_else(tasks, no)?;
     put_body(tasks, ScopeKind::Block, yes)?;
@@ -166,7 +168,7 @@ fn put_try<'a>(
     catch: &'a Option<Catch>,
     finally: &'a Option<Seq<Stmt>>,
 ) -> Result<(), NoMemory>
-    ensures { OnOk result (IsSplit tasks.old (early.block (map early.of_stmt body.now) ++ early.optional (option_map early.of_catch catch.now) ++ early.finally_of (option_map (map early.of_stmt) finally.now)) (weight.part (weight.parts (map weight.of_stmt body.now)) + weight.optional (option_map weight.of_catch catch.now) + weight.finally_of (option_map (map weight.of_stmt) finally.now)) tasks.new) }
+    ensures { OnOk result (SplitsTry tasks.old body.now catch.now finally.now tasks.new) }
 {
     put_finally(tasks, finally)?;
     put_catch(tasks, catch)?;

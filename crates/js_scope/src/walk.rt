@@ -1,7 +1,9 @@
 ghost use Rattle.std.specs.Prelude.{◌≡◌, ◌≤◌, ◌<◌, ◌+◌, [], ◌∷◌, map, OnOk};
 ghost use Rattle.js_scope.specs.Early as early;
 ghost use Rattle.js_tree.specs.Weight as weight;
-ghost use Rattle.js_scope.specs.Verdict.{IsSplit, Goes, Comes, answered, entered, judge, leave, piece_marks, piece_weight, settle, top_scope, total, verdict};
+ghost use Rattle.js_scope.specs.Splits.{SplitsItems};
+ghost use Rattle.js_scope.specs.Verdict.{IsSplit, Goes, Comes, answered, piece_weight, top_scope, total, verdict};
+ghost use Rattle.js_scope.specs.Walks.{verdict_behind, verdict_from, verdict_of, verdict_outside, verdict_within};
 
 use crate::fault::EarlyEnd;
 use crate::lists::{
@@ -25,7 +27,7 @@ struct Walk<'a> {
 
 /// Enters a scope.
 fn enter<'a>(alloc: Global, walk: &mut Walk<'a>, how: ScopeKind) -> Result<(), EarlyEnd>
-    ensures fault { Goes (verdict walk.old.tasks (entered how walk.old.scope) (walk.old.scope ∷ walk.old.outer)) (verdict walk.new.tasks walk.new.scope walk.new.outer) result }
+    ensures fault { Goes (verdict_within how walk.old) (verdict_of walk.new) result }
     ensures tasks { walk.new.tasks ≡ walk.old.tasks }
 {
     let inner = walk.scope.entered(alloc, how);
@@ -38,7 +40,7 @@ fn enter<'a>(alloc: Global, walk: &mut Walk<'a>, how: ScopeKind) -> Result<(), E
 
 /// Leaves a scope.
 fn go_out<'a>(walk: &mut Walk<'a>)
-    ensures fault { leave walk.old.scope walk.old.outer (λ s o. verdict walk.old.tasks s o) ≡ verdict walk.new.tasks walk.new.scope walk.new.outer }
+    ensures fault { verdict_outside walk.old ≡ verdict_of walk.new }
     ensures tasks { walk.new.tasks ≡ walk.old.tasks }
 {
     if let Some(scope) = walk.outer.pop() {
@@ -49,7 +51,7 @@ fn go_out<'a>(walk: &mut Walk<'a>)
 /// Goes through a piece.
 #[tactic(auto, using(crate::proofs::WalkLaws::goes))]
 fn go_through<'a>(walk: &mut Walk<'a>, piece: Piece<'a>) -> Result<(), EarlyEnd>
-    ensures fault { Goes (settle (judge walk.old.scope (piece_marks piece.entry)) (λ t. verdict walk.old.tasks t walk.old.outer)) (verdict walk.new.tasks walk.new.scope walk.new.outer) result }
+    ensures fault { Goes (verdict_behind piece.entry walk.old) (verdict_of walk.new) result }
     ensures weight { OnOk result (total walk.new.tasks ≤ piece_weight piece.entry + total walk.old.tasks) }
 {
     match piece {
@@ -80,7 +82,7 @@ fn grown(answer: Result<(), NoMemory>) -> Result<(), EarlyEnd>
 
 /// Does one task.
 fn step<'a>(alloc: Global, walk: &mut Walk<'a>, task: Task<'a>) -> Result<(), EarlyEnd>
-    ensures fault { Goes (verdict (task.entry ∷ walk.old.tasks) walk.old.scope walk.old.outer) (verdict walk.new.tasks walk.new.scope walk.new.outer) result }
+    ensures fault { Goes (verdict_from task.entry walk.old) (verdict_of walk.new) result }
     ensures weight { OnOk result (total walk.new.tasks < total (task.entry ∷ walk.old.tasks)) }
 {
     match task {
@@ -105,7 +107,7 @@ fn put_item<'a>(tasks: &mut Stack<Task<'a>>, item: &'a Item) -> Result<(), NoMem
 
 /// Puts the items of a script on the tasks.
 fn put_items<'a>(tasks: &mut Stack<Task<'a>>, items: &'a [Item]) -> Result<(), NoMemory>
-    ensures { OnOk result (IsSplit tasks.old (early.concat (map early.of_item items.now)) (weight.parts (map weight.of_item items.now)) tasks.new) }
+    ensures { OnOk result (SplitsItems tasks.old items.now tasks.new) }
 {
     let mut left = items.len();
     while left > 0 {
@@ -117,7 +119,7 @@ fn put_items<'a>(tasks: &mut Stack<Task<'a>>, items: &'a [Item]) -> Result<(), N
 
 /// Does all tasks.
 fn run<'a>(alloc: Global, walk: &mut Walk<'a>) -> Result<(), EarlyEnd>
-    ensures { Comes (verdict walk.old.tasks walk.old.scope walk.old.outer) result }
+    ensures { Comes (verdict_of walk.old) result }
 {
     while let Some(task) = walk.tasks.pop() {
         step(alloc, walk, task)?;

@@ -1,5 +1,5 @@
 -- How a call ends, by its outcome.
-use Rattle.std.specs.Prelude.{◌≡◌, ◌⊎◌, ℕ, ◌<◌, true, List, [], length, Option, Some, None, IfSome, refl, suc, ◌≤◌}
+use Rattle.std.specs.Prelude.{◌≡◌, ◌⊎◌, ℕ, true, List, [], length, Option, Some, None, IfSome, refl, suc, ◌≤◌}
 use Rattle.std.proofs.Common.{sym, ap, subst, ◌∙◌, inl, inr, arith}
 use Rattle.wd_base.specs.declared.config.Config.{Config}
 use Rattle.wd_machine.specs.declared.journal.Entry.{Entry}

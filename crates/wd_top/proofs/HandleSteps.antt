@@ -9,15 +9,15 @@ use Rattle.wd_ports.specs.declared.told.Failed.TheVariants.{Fault, NoMemory}
 use Rattle.wd_ports.specs.Told.{Told, with_received, with_sent, with_end, received_on, ended_on}
 use Rattle.wd_ports.specs.Send.{Sends}
 use Rattle.wd_machine.specs.declared.journal.Entry.{Entry}
-use Rattle.wd_top.specs.declared.http_in.conn.Phase.TheVariants as phase
-use Rattle.wd_top.specs.declared.http_in.conn.Fed.TheVariants as fed
+use Rattle.http_in.specs.declared.conn.Phase.TheVariants as phase
+use Rattle.http_in.specs.declared.conn.Fed.TheVariants as fed
 use Rattle.wd_top.specs.declared.seat.link.LinkRun.{LinkRun}
 use Rattle.wd_top.specs.declared.seat.link.Heard.{Heard}
 use Rattle.wd_top.specs.declared.seat.link.Heard.TheVariants as heard
 use Rattle.wd_top.specs.declared.seat.link.StepEnd.{StepEnd}
 use Rattle.wd_top.specs.declared.seat.link.StepEnd.TheVariants as end
-use Rattle.wd_top.specs.Stream.{IsFault}
-use Rattle.wd_top.specs.Text.{reply_text}
+use Rattle.http_in.specs.Stream.{IsFault}
+use Rattle.http_text.specs.ReplyText.{reply_text}
 use Rattle.wd_top.specs.Talk.{Talk, talk}
 use Rattle.wd_top.specs.Session.{is_head, tail_text, Carries}
 use Rattle.wd_top.specs.Steps.{Reading, Opened, Asks, Known, Knows, SameButConn, Hears, Replies, IsLeft, After, Handles, end_of}

@@ -1,7 +1,3 @@
-pub mod FormSteps
-pub mod HeadSteps
-pub mod HeadUnique
-pub mod StreamSteps
 pub mod BoardSteps
 pub mod FaultSteps
 pub mod HandleSteps

@@ -11,9 +11,10 @@ use Rattle.wd_ports.specs.declared.told.LinkState.{LinkState}
 use Rattle.wd_ports.specs.Told.{Told, on_link, with_received, with_sent, with_end, with_shut, received_on, ended_on, sent_on, shut_on}
 use Rattle.wd_ports.proofs.OneLink.{twice, unchanged}
 use Rattle.wd_top.specs.declared.seat.link.LinkRun.{LinkRun}
-use Rattle.wd_top.specs.Stream.{Requests, IsFault, IsUnfinished, EndsAs}
-use Rattle.wd_top.specs.Text.{reply_text, line}
-use Rattle.wd_top.proofs.StreamSteps.{all_more, all_snoc, closing_snoc}
+use Rattle.http_in.specs.Stream.{Requests, IsFault, IsUnfinished, EndsAs}
+use Rattle.http_text.specs.ReplyText.{reply_text}
+use Rattle.wd_top.specs.Text.{line}
+use Rattle.http_in.proofs.StreamLaws.{all_more, all_snoc, closing_snoc}
 use Rattle.wd_top.specs.Talk.{Row, Talk, answered, add_row}
 use Rattle.wd_top.specs.Session.{is_head, tail_text, asked, arrivals, replies, AreAt, Carries, IsWhole}
 use Rattle.wd_top.specs.Steps.{Reading, Asks}

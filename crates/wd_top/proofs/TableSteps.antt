@@ -13,7 +13,7 @@ use Rattle.wd_ports.specs.Told.{Told, on_link, link_of, blank, shut_on, with_shu
 use Rattle.wd_ports.specs.Links.{Stays}
 use Rattle.wd_ports.proofs.OneLink.{twice}
 use Rattle.wd_machine.specs.declared.journal.Entry.{Entry}
-use Rattle.wd_top.specs.declared.http_in.conn.Conn.{Conn}
+use Rattle.http_in.specs.Conn.{Link}
 use Rattle.wd_top.specs.declared.seat.link.LinkRun.{LinkRun}
 use Rattle.wd_top.specs.declared.seat.link.Heard.{Heard}
 use Rattle.wd_top.specs.declared.seat.link.StepEnd.{StepEnd}
@@ -24,7 +24,7 @@ use Rattle.wd_top.specs.Talk.{Talk, talk, no_talk}
 use Rattle.wd_top.specs.Session.{service_at, number, IsOutside, Carries, CarriesFrom, WholeFrom, Session, Done}
 use Rattle.wd_top.specs.Steps.{IsLeft, Others, Opened, Hears, Handles, After, TendedAs, Moves}
 use Rattle.wd_top.specs.Table.{IsTended, AreTended, Tended, run_at, new_run, blank_run, AreShut, Kept}
-use Rattle.wd_top.proofs.StreamSteps.{unfinished_nothing}
+use Rattle.http_in.proofs.StreamLaws.{unfinished_nothing}
 use Rattle.wd_top.proofs.SessionSteps.{shut_link, carries_all, carries_shut, whole_shut}
 use Rattle.wd_top.proofs.TalkSteps.{silent, orderly_means}
 
@@ -42,7 +42,7 @@ moves_on n sockets run run1 run2 i t t1 t2 j j' gone live h d0 =
           ((d.stands (h.change l)).0 ∙ (h.stands l).0 ∙ o.0, d.after (h.change l) (h.known s l (talk 0 n.0 j) o.1));
     }
 
-pub moves_over : (n : LinkNo) (sockets : List Socket) (run run1 run2 : LinkRun) (conn : Conn) (i : Heard) (t t1 t2 t3 : Told) (j j' : List Entry) (gone gone' : Type 0) → Hears n run run1 i t t1 → Handles n (service_at sockets run1.socket) run1 run2 i end.Over t1 t2 j j' gone → t3 ≡ shut_on n t2 → (gone → gone') → Moves n (service_at sockets run.socket) run (record run2 { stage = Shut; conn = conn }) t t3 j j' gone'
+pub moves_over : (n : LinkNo) (sockets : List Socket) (run run1 run2 : LinkRun) (conn : Link) (i : Heard) (t t1 t2 t3 : Told) (j j' : List Entry) (gone gone' : Type 0) → Hears n run run1 i t t1 → Handles n (service_at sockets run1.socket) run1 run2 i end.Over t1 t2 j j' gone → t3 ≡ shut_on n t2 → (gone → gone') → Moves n (service_at sockets run.socket) run (record run2 { stage = Shut; conn = conn }) t t3 j j' gone'
 moves_over n sockets run run1 run2 conn i t t1 t2 t3 j j' gone gone' h d0 e stays =
     let s : List ℕ = service_at sockets run.socket in
     let d : Handles n s run1 run2 i end.Over t1 t2 j j' gone = subst (λ k. Handles n (service_at sockets k) run1 run2 i end.Over t1 t2 j j' gone) h.same.1 d0 in

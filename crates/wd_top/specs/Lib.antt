@@ -1,7 +1,3 @@
-pub mod Form
-pub mod Head
-pub mod Stream
-pub mod Conn
 pub mod Text
 pub mod Outcome
 pub mod Board

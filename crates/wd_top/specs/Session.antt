@@ -10,8 +10,9 @@ use Rattle.wd_ports.specs.declared.told.LinkOrigin.{LinkOrigin}
 use Rattle.wd_ports.specs.declared.told.LinkOrigin.TheVariants.{Socket as AtSocket, Peer}
 use Rattle.wd_ports.specs.Told.{blank}
 use Rattle.wd_machine.specs.declared.journal.Entry.{Entry}
-use Rattle.wd_top.specs.Stream.{Requests, ReadsAll, closing, IsFault, RequestsOf}
-use Rattle.wd_top.specs.Text.{reply_text, bad_reply, line}
+use Rattle.http_in.specs.Stream.{Requests, ReadsAll, closing, IsFault, RequestsOf}
+use Rattle.http_text.specs.ReplyText.{reply_text, bad_reply}
+use Rattle.wd_top.specs.Text.{line}
 use Rattle.wd_top.specs.Talk.{Row, Talk, answered, no_talk, talk, TakesTurns}
 
 -- the request asks for the head of its reply alone (RFC 9110, section 9.3.2)

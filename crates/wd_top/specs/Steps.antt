@@ -12,8 +12,8 @@ use Rattle.wd_ports.specs.Faults.{Part, part}
 use Rattle.wd_ports.specs.Told.{Told, on_link}
 use Rattle.wd_ports.specs.Send.{Sends}
 use Rattle.wd_machine.specs.declared.journal.Entry.{Entry}
-use Rattle.wd_top.specs.declared.http_in.conn.Phase.TheVariants as phase
-use Rattle.wd_top.specs.declared.http_in.conn.Fed.TheVariants as fed
+use Rattle.http_in.specs.declared.conn.Phase.TheVariants as phase
+use Rattle.http_in.specs.declared.conn.Fed.TheVariants as fed
 use Rattle.wd_top.specs.declared.seat.link.LinkRun.{LinkRun}
 use Rattle.wd_top.specs.declared.seat.link.Stage.{Stage}
 use Rattle.wd_top.specs.declared.seat.link.Stage.TheVariants.{Open, Shut, Stopped}
@@ -21,8 +21,9 @@ use Rattle.wd_top.specs.declared.seat.link.Heard.{Heard}
 use Rattle.wd_top.specs.declared.seat.link.Heard.TheVariants as heard
 use Rattle.wd_top.specs.declared.seat.link.StepEnd.{StepEnd}
 use Rattle.wd_top.specs.declared.seat.link.StepEnd.TheVariants as end
-use Rattle.wd_top.specs.Stream.{Requests, Reads, ReadsAll, closing, IsFault, IsUnfinished}
-use Rattle.wd_top.specs.Text.{reply_text, line}
+use Rattle.http_in.specs.Stream.{Requests, Reads, ReadsAll, closing, IsFault, IsUnfinished}
+use Rattle.http_text.specs.ReplyText.{reply_text}
+use Rattle.wd_top.specs.Text.{line}
 use Rattle.wd_top.specs.Talk.{Talk, talk, answered, add_row}
 use Rattle.wd_top.specs.Session.{is_head, asked, arrivals, replies, AreAt, Carries, IsWhole}
 

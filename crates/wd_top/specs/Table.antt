@@ -8,7 +8,7 @@ use Rattle.wd_ports.specs.declared.told.LinkState.{LinkState}
 use Rattle.wd_ports.specs.declared.told.LinkOrigin.TheVariants.{Socket as AtSocket}
 use Rattle.wd_ports.specs.Told.{Told}
 use Rattle.wd_machine.specs.declared.journal.Entry.{Entry}
-use Rattle.wd_top.specs.declared.http_in.conn.Phase.TheVariants as phase
+use Rattle.http_in.specs.declared.conn.Phase.TheVariants as phase
 use Rattle.wd_top.specs.declared.seat.link.LinkRun.{LinkRun}
 use Rattle.wd_top.specs.declared.seat.link.Stage.{Stage}
 use Rattle.wd_top.specs.declared.seat.link.Stage.TheVariants.{Open, Shut, Stopped}

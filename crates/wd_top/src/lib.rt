@@ -3,9 +3,6 @@
 #![tactic(auto)]
 
 mod board;
-mod form;
-mod http_in;
-mod http_text;
 mod outcome;
 mod seat;
 mod session;

@@ -5,7 +5,7 @@ use std::alloc::Global;
 use std::sync::Wait;
 use std::test::Fail;
 use std::thread::Threads;
-use wd_base::{Bytes, LinkNo, NoMemory, Numbers, Origin, Seq, SockNo, Why};
+use wd_base::{Bytes, LinkNo, NoMemory, Numbers, Origin, ReqData, Seq, SockNo, Why};
 use wd_machine::{Entry, Out};
 use wd_plan::serves;
 use wd_ports::{
@@ -63,10 +63,19 @@ const hello :Workerd.Worker = (modules = [(name = \"a\", esModule = embed \"work
 
 const OTHER_SCRIPT: &[u8] = b"export default {};\n";
 
-const HEAD: &[u8] = b"GET / HTTP/1.1\r\nHost: localhost:8080\r\n\r\n";
+const GET: &[u8] = b"GET / HTTP/1.1\r\nHost: localhost:8080\r\n\r\n";
 
 const REPLY: &[u8] =
     b"HTTP/1.1 200 OK\r\ncontent-type: text/plain;charset=UTF-8\r\ncontent-length: 12\r\n\r\nHello World\n";
+
+const REPLY_HEAD: &[u8] =
+    b"HTTP/1.1 200 OK\r\ncontent-type: text/plain;charset=UTF-8\r\ncontent-length: 12\r\n\r\n";
+
+const REPLY_CLOSING: &[u8] =
+    b"HTTP/1.1 200 OK\r\ncontent-type: text/plain;charset=UTF-8\r\ncontent-length: 12\r\nconnection: close\r\n\r\nHello World\n";
+
+const TOO_LARGE: &[u8] =
+    b"HTTP/1.1 413 Payload Too Large\r\ncontent-type: text/plain;charset=UTF-8\r\ncontent-length: 17\r\nconnection: close\r\n\r\nPayload Too Large";
 
 const BAD: &[u8] =
     b"HTTP/1.1 400 Bad Request\r\ncontent-type: text/plain;charset=UTF-8\r\ncontent-length: 11\r\nconnection: close\r\n\r\nBad Request";
@@ -74,9 +83,30 @@ const BAD: &[u8] =
 const PIPELINED: &[u8] =
     b"GET / HTTP/1.1\r\nHost: localhost:8080\r\n\r\nGET /a HTTP/1.1\r\nHost: b\r\n\r\n";
 
-const HEAD_FRONT: &[u8] = b"GET / HTTP/1.1\r\nHost: loc";
+const CURL: &[u8] =
+    b"GET / HTTP/1.1\r\nHost: localhost:8080\r\nUser-Agent: curl/8.5.0\r\nAccept: */*\r\n\r\n";
 
-const HEAD_REST: &[u8] = b"alhost:8080\r\n\r\nGET";
+const COUNTED: &[u8] =
+    b"POST /a?b=c HTTP/1.1\r\nHost: localhost:8080\r\nContent-Type: text/plain\r\nContent-Length: 5\r\n\r\nhello";
+
+const CHUNKED: &[u8] =
+    b"POST / HTTP/1.1\r\nHost: localhost:8080\r\nTransfer-Encoding: chunked\r\n\r\n2\r\nhe\r\n3\r\nllo\r\n0\r\n\r\n";
+
+const ONLY_HEAD: &[u8] = b"HEAD / HTTP/1.1\r\nHost: localhost:8080\r\n\r\n";
+
+const CLOSING: &[u8] = b"GET / HTTP/1.1\r\nHost: localhost:8080\r\nConnection: close\r\n\r\n";
+
+const LARGE: &[u8] = b"POST / HTTP/1.1\r\nHost: localhost:8080\r\nContent-Length: 1048577\r\n\r\n";
+
+/// A head may begin so.
+const METHOD: &[u8] = b"POST";
+
+/// No head begins so.
+const NO_HEAD: &[u8] = b"(";
+
+const GET_FRONT: &[u8] = b"GET / HTTP/1.1\r\nHost: loc";
+
+const GET_REST: &[u8] = b"alhost:8080\r\n\r\nGET";
 
 const WITHOUT_HOST: &[u8] = b"GET / HTTP/1.1\r\n\r\n";
 
@@ -304,38 +334,73 @@ fn joined(alloc: Global, texts: &[&[u8]]) -> Result<Bytes, NoMemory> {
     Ok(bytes)
 }
 
+/// A link on which these pieces come carries these replies, is shut once, and its requests have so
+/// many entries.
+fn carries<R: Threads + Wait + Sync>(
+    rt: &R,
+    alloc: Global,
+    pieces: &[&[u8]],
+    replies: &[&[u8]],
+    entries: usize,
+) -> Result<bool, NoMemory> {
+    let came = call(rt, alloc, &one_link(pieces), None)?;
+    let (sent, shuts) = link_of(came.ended.ports.as_slice(), 1);
+    let replies = joined(alloc, replies)?;
+    Ok(
+        came.ended.status == 0
+            && came.printed.is_empty()
+            && shuts == 1
+            && came.ended.journal.entries.len() == entries
+            && sent == replies.as_slice(),
+    )
+}
+
 #[test]
 fn a_link_carries_the_replies_of_its_requests(rt: HostRuntime) -> Result<(), Fail> {
-    let cases: [(&[&[u8]], &[&[u8]], usize); 8] = [
-        (&[HEAD], &[REPLY], 3),
-        (&[HEAD, HEAD, HEAD], &[REPLY, REPLY, REPLY], 9),
+    let cases: [(&[&[u8]], &[&[u8]], usize); 9] = [
+        (&[GET], &[REPLY], 3),
+        (&[GET, GET, GET], &[REPLY, REPLY, REPLY], 9),
         (&[PIPELINED], &[REPLY, REPLY], 6),
-        (&[HEAD_FRONT, HEAD_REST], &[REPLY], 3),
+        (&[GET_FRONT, GET_REST], &[REPLY], 3),
         (&[], &[], 0),
-        (&[b"POST"], &[BAD], 0),
-        (&[HEAD, b"POST", HEAD], &[REPLY, BAD], 3),
+        (&[METHOD], &[], 0),
+        (&[NO_HEAD], &[BAD], 0),
+        (&[GET, NO_HEAD, GET], &[REPLY, BAD], 3),
         (&[WITHOUT_HOST], &[BAD], 0),
     ];
     for (pieces, replies, entries) in cases {
-        let came = call(&rt, rt.alloc(), &one_link(pieces), None)?;
-        let (sent, shuts) = link_of(came.ended.ports.as_slice(), 1);
-        let replies = joined(rt.alloc(), replies)?;
-        assert_eq!(rt; came.ended.status, 0);
-        assert_eq!(rt; came.printed.len(), 0);
-        assert_eq!(rt; shuts, 1);
-        assert_eq!(rt; came.ended.journal.entries.len(), entries);
-        assert!(rt; sent == replies.as_slice());
+        assert!(rt; carries(&rt, rt.alloc(), pieces, replies, entries)?);
     }
     Ok(())
 }
 
 #[test]
-fn a_head_may_be_cut_anywhere(rt: HostRuntime) -> Result<(), Fail> {
-    for cut in 1..HEAD.len() {
-        let pieces = [&HEAD[..cut], &HEAD[cut..]];
-        let came = call(&rt, rt.alloc(), &one_link(&pieces), None)?;
-        let (sent, _) = link_of(came.ended.ports.as_slice(), 1);
-        assert!(rt; sent == REPLY, "at {cut}");
+fn requests_of_each_kind_are_served(rt: HostRuntime) -> Result<(), Fail> {
+    let cases: [(&[&[u8]], &[&[u8]], usize); 7] = [
+        (&[CURL, CURL], &[REPLY, REPLY], 6),
+        (&[COUNTED, GET], &[REPLY, REPLY], 6),
+        (&[CHUNKED, GET], &[REPLY, REPLY], 6),
+        (&[ONLY_HEAD, GET], &[REPLY_HEAD, REPLY], 6),
+        (&[CLOSING, GET], &[REPLY_CLOSING], 3),
+        (&[LARGE, GET], &[TOO_LARGE], 0),
+        (&[GET, LARGE], &[REPLY, TOO_LARGE], 3),
+    ];
+    for (pieces, replies, entries) in cases {
+        assert!(rt; carries(&rt, rt.alloc(), pieces, replies, entries)?);
+    }
+    Ok(())
+}
+
+#[test]
+fn a_request_may_be_cut_anywhere(rt: HostRuntime) -> Result<(), Fail> {
+    let requests: [&[u8]; 3] = [GET, COUNTED, CHUNKED];
+    for request in requests {
+        for cut in 1..request.len() {
+            let pieces = [&request[..cut], &request[cut..]];
+            let came = call(&rt, rt.alloc(), &one_link(&pieces), None)?;
+            let (sent, _) = link_of(came.ended.ports.as_slice(), 1);
+            assert!(rt; sent == REPLY, "at {cut}");
+        }
     }
     Ok(())
 }
@@ -358,7 +423,7 @@ fn a_link_that_is_gone_is_shut(rt: HostRuntime) -> Result<(), Fail> {
 fn a_link_whose_write_fails_is_shut(rt: HostRuntime) -> Result<(), Fail> {
     let around = Around {
         fails: Some((Part::Port, 2)),
-        ..one_link(&[HEAD])
+        ..one_link(&[GET])
     };
     let came = call(&rt, rt.alloc(), &around, None)?;
     let (sent, shuts) = link_of(came.ended.ports.as_slice(), 1);
@@ -372,8 +437,8 @@ fn a_link_whose_write_fails_is_shut(rt: HostRuntime) -> Result<(), Fail> {
 #[test]
 fn two_links_have_their_own_replies(rt: HostRuntime) -> Result<(), Fail> {
     let around = Around {
-        second: Some(&[PIPELINED, b"POST"]),
-        ..one_link(&[HEAD_FRONT, HEAD_REST])
+        second: Some(&[PIPELINED, NO_HEAD]),
+        ..one_link(&[GET_FRONT, GET_REST])
     };
     let came = call(&rt, rt.alloc(), &around, None)?;
     let (first, first_shuts) = link_of(came.ended.ports.as_slice(), 1);
@@ -446,9 +511,58 @@ fn is_worked_journal(entries: &[Entry]) -> bool {
 
 #[test]
 fn the_journal_of_one_request(rt: HostRuntime) -> Result<(), Fail> {
-    let came = call(&rt, rt.alloc(), &one_link(&[HEAD]), None)?;
+    let came = call(&rt, rt.alloc(), &one_link(&[GET]), None)?;
     assert!(rt; is_worked_journal(came.ended.journal.entries.as_slice()));
     Ok(())
+}
+
+/// The request that arrived first, where one did.
+fn first_request(entries: &[Entry]) -> Option<&ReqData> {
+    match entries.first() {
+        Some(Entry::Arrive { request, .. }) => Some(request),
+        _ => None,
+    }
+}
+
+#[test]
+fn the_journal_has_a_request_as_it_came(rt: HostRuntime) -> Result<(), Fail> {
+    let cases: [(&[u8], &[u8], &[u8], usize, Option<&[u8]>); 4] = [
+        (CURL, b"GET", b"http://localhost:8080/", 3, None),
+        (ONLY_HEAD, b"HEAD", b"http://localhost:8080/", 1, None),
+        (
+            COUNTED,
+            b"POST",
+            b"http://localhost:8080/a?b=c",
+            3,
+            Some(b"hello"),
+        ),
+        (
+            CHUNKED,
+            b"POST",
+            b"http://localhost:8080/",
+            2,
+            Some(b"hello"),
+        ),
+    ];
+    for (bytes, method, url, fields, body) in cases {
+        let pieces = [bytes];
+        let came = call(&rt, rt.alloc(), &one_link(&pieces), None)?;
+        let request = first_request(came.ended.journal.entries.as_slice());
+        assert!(rt;
+            request.is_some_and(|request| request.method.as_slice() == method
+                && request.url.as_slice() == url
+                && request.fields.len() == fields
+                && body_of(request) == body)
+        );
+    }
+    Ok(())
+}
+
+fn body_of(request: &ReqData) -> Option<&[u8]> {
+    match &request.body {
+        Some(body) => Some(body.as_slice()),
+        None => None,
+    }
 }
 
 /// How many requests arrived at the service of this name.
@@ -467,7 +581,7 @@ fn each_socket_has_its_service(rt: HostRuntime) -> Result<(), Fail> {
     let around = Around {
         words: &["serve", "config.capnp", "two"],
         config: TWO_CONFIGS,
-        second: Some(&[HEAD]),
+        second: Some(&[GET]),
         second_socket: SockNo(1),
         ..one_link(&[PIPELINED])
     };
@@ -488,7 +602,7 @@ fn a_world_without_sockets_makes_no_port(rt: HostRuntime) -> Result<(), Fail> {
     let around = Around {
         words: &["serve", "config.capnp", "none"],
         config: TWO_CONFIGS,
-        ..one_link(&[HEAD])
+        ..one_link(&[GET])
     };
     let came = call(&rt, rt.alloc(), &around, None)?;
     assert_eq!(rt; came.ended.status, 0);
@@ -553,7 +667,7 @@ fn offline_call(alloc: Global, around: &Around<'_>) -> Result<(u8, Bytes), NoMem
 fn ten_thousand_requests_on_one_link(rt: HostRuntime) -> Result<(), Fail> {
     let mut bytes: Bytes = Seq::new(rt.alloc());
     for _ in 0..10_000 {
-        bytes.extend(HEAD)?;
+        bytes.extend(GET)?;
     }
     let pieces = [bytes.as_slice()];
     let came = call(&rt, rt.alloc(), &one_link(&pieces), None)?;

@@ -2,13 +2,13 @@ ghost use Rattle.std.specs.Prelude.{◌⊎◌, ◌≡◌, ℕ, ◌<◌, Some, le
 ghost use Rattle.wd_ports.specs.Links.{Keeps, Stays};
 ghost use Rattle.wd_ports.specs.Send.{Sends};
 ghost use Rattle.wd_top.specs.declared.seat.link.Heard.{Heard as HeardIs};
-ghost use Rattle.wd_top.specs.Text.{reply_text};
+ghost use Rattle.http_text.specs.ReplyText.{reply_text};
 ghost use Rattle.wd_top.specs.Session.{service_at, tail_text, is_head};
 ghost use Rattle.wd_top.specs.Steps.{Knows, SameButConn, Hears, Replies, Handles, NoneFell, end_of};
 
 use crate::board::Board;
-use crate::http_in::{Conn, Fed};
-use crate::http_text::{bad_text, reply_text};
+use http_in::{Conn, Fed};
+use http_text::{bad_reply, reply_text};
 use std::alloc::Global;
 use wd_base::{LinkNo, NoMemory, Reply, ReqData, SockNo};
 use wd_machine::Isolate;
@@ -194,9 +194,9 @@ fn refuse<P: Port>(port: &mut P, alloc: Global, link: LinkNo, code: u16) -> Resu
     ensures stays { Stays (P.gone port.old) (P.gone port.new) }
     ensures faults { NoneFell (P.faults port.old) (P.faults port.new) }
 {
-    match bad_text(alloc, code) {
+    match bad_reply(alloc, code) {
         Err(NoMemory) => Err(Failed::NoMemory),
-        Ok(text) => write_all(port, link, text.as_slice()),
+        Ok(reply) => send(port, alloc, link, &reply, false, true),
     }
 }
 

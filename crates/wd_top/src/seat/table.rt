@@ -7,8 +7,8 @@ ghost use Rattle.wd_top.specs.Steps.{Moves, NoneFell};
 ghost use Rattle.wd_top.specs.Table.{Tended, Kept, SameFiles, AreWithin, Covers, keep, is_shut, run_at, new_run};
 
 use crate::board::Board;
-use crate::http_in::Conn;
 use crate::seat::link::{Heard, LinkRun, READ_SIZE, Stage, StepEnd, handle, hear};
+use http_in::Conn;
 use std::alloc::Global;
 use wd_base::{LinkNo, NoMemory, SockNo};
 use wd_machine::Isolate;

@@ -1,5 +1,4 @@
 use Rattle.std.proofs.Common.{ap, length, subst, sym}
-use Rattle.wd_plan.specs.Plan.{Plans}
 use Rattle.wd_top.specs.Ended.{IsCaused, IsEarly}
 use Rattle.wd_top.proofs.EndSteps.{early_comes, no_item, session_comes}
 use Rattle.wd_top.proofs.top.run.Goals as goal

@@ -1,0 +1,23 @@
+use Rattle.std.proofs.Common.{length, Some}
+use Rattle.std.proofs.Common.{arith, ap, take, ◌∙◌}
+use Rattle.std.proofs.lemmas.List.{take_rest}
+use Rattle.http_in.proofs.BegunSteps.{counted_later, counted_whole}
+use Rattle.http_in.proofs.request.read_counted.Goals as goal
+
+pub returns-then-rest-size : goal.returns-then-rest-size
+returns-then-rest-size c =
+    let bytes = c.args.bytes.now in
+    let begun = c.args.begun in
+    let rest = ap length (take_rest bytes begun.size) in
+    let short = c.if-rest-size.true in
+    (counted_later bytes begun c.args.size c.requires.begun c.requires.counted (omega (arith, rest, short)), c.requires.begun)
+
+pub returns : goal.returns
+returns c =
+    let bytes = c.args.bytes.now in
+    let begun = c.args.begun in
+    let rest = take_rest bytes begun.size in
+    let long = ap length rest in
+    let fits = c.if-rest-size.false in
+    counted_whole bytes begun c.args.size c.with_body.result c.requires.begun c.requires.counted (omega (arith, long, fits))
+    (c.with_body.ensures ∙ ap (λ body. record begun.request { body = Some body }) (c.in_ok-body.ensures ∙ ap (take c.args.size) rest))
