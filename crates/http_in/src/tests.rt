@@ -184,16 +184,18 @@ fn a_request_may_be_cut_anywhere(rt: HostRuntime) -> Result<(), Fail> {
         match conn.feed(rt.alloc(), &WHOLE[cut..])? {
             Fed::Request(request, close) => {
                 assert!(&rt; !close);
-                assert!(&rt; request.method.as_slice() == b"POST");
-                assert!(&rt; request.url.as_slice() == b"http://b/a");
+                assert!(&rt; request.method.as_slice() == b"POST".as_slice());
+                assert!(&rt; request.url.as_slice() == b"http://b/a".as_slice());
                 assert!(&rt; request.fields.len() == 3);
                 assert!(&rt;
-                    request
-                        .fields
-                        .get(1)
-                        .is_some_and(|f| f.0.as_slice() == b"x-y" && f.1.as_slice() == b"Z")
+                    request.fields.get(1).is_some_and(|f| f.0.as_slice() == b"x-y".as_slice()
+                        && f.1.as_slice() == b"Z".as_slice())
                 );
-                assert!(&rt; request.body.is_some_and(|b| b.as_slice() == b"cd"));
+                assert!(&rt;
+                    request
+                        .body
+                        .is_some_and(|b| b.as_slice() == b"cd".as_slice())
+                );
             }
             _ => assert!(&rt; false, "at {cut}"),
         }
