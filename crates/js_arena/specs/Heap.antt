@@ -1,6 +1,7 @@
 -- A script's heap, and each change of it.
 use Rattle.std.specs.Prelude.{◌≡◌, ℕ, ◌+◌, ◌-◌, ◌*◌, ◌==◌, ◌&&◌, ◌||◌, Bool, true, false, List, [], ◌∷◌, ◌++◌}
-use Rattle.std.specs.Prelude.{length, map, take, nat_le, replicate, slice_get, slice_set, Option, Some, None, Result, Ok, Err}
+use Rattle.std.specs.Prelude.{length, map, take, nat_le, replicate, slice_get, slice_set, Option, Some, None, Result}
+use Rattle.std.specs.Prelude.{Ok, Err}
 use Rattle.std.specs.Bool.{beq}
 use Rattle.std.specs.List.{list_any, position_or_len}
 use Rattle.indexmap.specs.IndexSet.{insert_key}
@@ -11,7 +12,8 @@ use Rattle.js_arena.specs.declared.value.HandleName.{HandleName}
 use Rattle.js_arena.specs.declared.value.Value.{Value}
 use Rattle.js_arena.specs.declared.value.Value.TheVariants as value
 use Rattle.js_arena.specs.declared.value.Cell.{Cell}
-use Rattle.js_arena.specs.declared.value.Cell.TheVariants.{Text, Variable, Object, Array, Function, Activation, Error, Buffer}
+use Rattle.js_arena.specs.declared.value.Cell.TheVariants.{Text, Variable, Object, Array, Function, Activation, Error}
+use Rattle.js_arena.specs.declared.value.Cell.TheVariants.{Buffer}
 use Rattle.js_arena.specs.declared.value.ArenaEnd.{ArenaEnd}
 use Rattle.js_arena.specs.declared.value.ArenaEnd.TheVariants.{Full, NoMemory}
 use Rattle.js_arena.specs.declared.value.OpEnd.{OpEnd}
@@ -35,6 +37,11 @@ pub record Heap : Type 0 where
   pub handles : List HandleName
   pub taken : ℕ
   pub limit : ℕ
+
+-- the heap that these parts make
+abbrev pub heap_of : List Cell → List (List ℕ) → List HandleName → ℕ → ℕ → Heap
+heap_of cells texts handles taken limit =
+    record { cells = cells; texts = texts; handles = handles; taken = taken; limit = limit }
 
 -- whether n more units stay within the limit
 abbrev pub fits : Heap → ℕ → Bool

@@ -1,7 +1,8 @@
 -- What the cells of a heap take.
 use Rattle.std.specs.Prelude.{ℕ, ◌+◌, ◌*◌, length}
 use Rattle.js_arena.specs.declared.value.Cell.{Cell}
-use Rattle.js_arena.specs.declared.value.Cell.TheVariants.{Text, Variable, Object, Array, Function, Activation, Error, Buffer}
+use Rattle.js_arena.specs.declared.value.Cell.TheVariants.{Text, Variable, Object, Array, Function, Activation, Error}
+use Rattle.js_arena.specs.declared.value.Cell.TheVariants.{Buffer}
 
 -- a string that was made 4 and 1 for each unit, an object 8 and 4 for each property, an array 8 and 2 for each item,
 -- a buffer 8 and 1 for each byte; a function and a call 8, a variable 2, an Error object 16

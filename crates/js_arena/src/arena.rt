@@ -1,12 +1,16 @@
-ghost use Rattle.std.specs.Prelude.{◌≡◌, [], ◌∷◌, ◌++◌, ◌<◌, ◌≤◌, ◌+◌, ◌*◌, length, map, nat_le, replicate, slice_get, slice_set, true, false};
+ghost use Rattle.std.specs.Prelude.{◌≡◌, [], ◌∷◌, ◌++◌, ◌<◌, ◌≤◌, ◌+◌, ◌*◌, length, map, nat_le, replicate, slice_get};
+ghost use Rattle.std.specs.Prelude.{slice_set, true, false};
 ghost use Rattle.std.specs.Prelude.{Option, Some, None, option_map, IfOk, OnOk, OnErr, IfSome, IsNone};
 ghost use Rattle.std.specs.Option.{option_copied};
 ghost use Rattle.std.specs.List.{list_any};
 ghost use Rattle.js_arena.specs.Props.{put_prop, put_units};
 ghost use Rattle.js_arena.specs.Units.{units};
-ghost use Rattle.js_arena.specs.Heap.{Heap, Adds, AddsCell, AddsVariables, AddsProp, Replaces, cell_at, put_at, push_at, set_at, pop_at};
-ghost use Rattle.js_arena.specs.Heap.{with_value, with_item, with_item_at, without_last, without_end, last_of, same_kind, more_units};
-ghost use Rattle.js_arena.specs.Heap.{is_variable, is_object, is_array, props_of, items_of, text_of, text_in, handle_no, with_handle};
+ghost use Rattle.js_arena.specs.Heap.{Heap, Adds, AddsCell, AddsVariables, AddsProp, Replaces, cell_at, put_at};
+ghost use Rattle.js_arena.specs.Heap.{push_at, set_at, pop_at};
+ghost use Rattle.js_arena.specs.Heap.{with_value, with_item, with_item_at, without_last, without_end, last_of};
+ghost use Rattle.js_arena.specs.Heap.{same_kind, more_units};
+ghost use Rattle.js_arena.specs.Heap.{is_variable, is_object, is_array, props_of, items_of, text_of, text_in};
+ghost use Rattle.js_arena.specs.Heap.{handle_no, with_handle};
 ghost use Rattle.js_arena.specs.Heap.{heap_holds, cell_holds, value_holds};
 ghost use Rattle.js_arena.specs.declared.value.Cell.TheVariants.{Variable, Array, Object};
 
@@ -31,11 +35,11 @@ pub struct Arena {
 
 impl Model for Arena {
     ghost use Rattle.std.specs.Prelude.{◌≤◌, length};
-    ghost use Rattle.js_arena.specs.Heap.{Heap};
+    ghost use Rattle.js_arena.specs.Heap.{Heap, heap_of};
 
     ghost Value = { Heap };
 
-    ghost view = { λ a. record { cells = a.cells.items; texts = a.texts; handles = a.hands.keys; taken = a.total; limit = a.limit } };
+    ghost view = { λ a. heap_of a.cells.items a.texts a.hands.keys a.total a.limit };
 
     ghost invariant = { λ a. (length a.cells.items ≤ a.total) × (a.total ≤ a.limit) };
 }
@@ -404,7 +408,8 @@ impl Arena {
 
     /// The number of a handle's name: its own, or a new one. It takes no units.
     pub fn hand(&mut self, name: HandleName) -> Result<HandleNo, NoMemory>
-        ensures ok { IfOk result (λ no. (no.0 ≡ handle_no name self.old.handles) × (self.new ≡ with_handle name self.old)) }
+        ensures number { IfOk result (λ no. no.0 ≡ handle_no name self.old.handles) }
+        ensures ok { OnOk result (self.new ≡ with_handle name self.old) }
         ensures err { OnErr result (self.new ≡ self.old) }
     {
         match self.hands.insert_full(name) {

@@ -19,7 +19,7 @@ fn object(alloc: Global, keys: &[&[u8]]) -> Result<Props, NoMemory> {
     Ok(props)
 }
 
-fn cells(alloc: Global) -> Result<Vec<(Cell, u32)>, NoMemory> {
+fn cells(alloc: Global) -> Result<Vec<(Cell, u32)>, Fail> {
     let mut rows = Vec::new(alloc);
     let name = ShortText::new(alloc, units(alloc, b"then")?)?;
     rows.push((Cell::Text(units(alloc, b"abc")?), 7))?;
