@@ -67,7 +67,11 @@ fn room(total: u32, limit: u32, more: u128) -> Option<u32>
     ensures none { IsNone result → nat_le (total + more) limit ≡ false }
 {
     let rest = (limit - total) as u128;
-    if more <= rest { Some(total + more as u32) } else { None }
+    if more <= rest {
+        Some(total + more as u32)
+    } else {
+        None
+    }
 }
 
 fn push_cell(cells: &mut Vec<Cell>, cell: Cell) -> Result<(), NoMemory>
@@ -311,7 +315,13 @@ impl Arena {
     }
 
     /// Writes a property of an object, for 4 units where it is a new one.
-    pub fn put(&mut self, alloc: Global, no: CellNo, key: &[u16], value: Value) -> Result<(), ArenaEnd>
+    pub fn put(
+        &mut self,
+        alloc: Global,
+        no: CellNo,
+        key: &[u16],
+        value: Value,
+    ) -> Result<(), ArenaEnd>
         requires { is_object (cell_at self.old no) ≡ true }
         ensures { AddsProp no key.now value self.old self.new result }
     {
@@ -430,6 +440,8 @@ impl Arena {
         ensures { result ≡ heap_holds req obj self.now }
     {
         let names = self.hands.as_slice();
-        self.cells.iter().any(|cell| cell_holds(cell, names, req, obj))
+        self.cells
+            .iter()
+            .any(|cell| cell_holds(cell, names, req, obj))
     }
 }

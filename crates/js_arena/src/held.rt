@@ -29,5 +29,7 @@ pub fn value_holds(value: &Value, names_of: &[HandleName], req: Req, obj: Obj) -
 pub fn any_holds(values: &[Value], names_of: &[HandleName], req: Req, obj: Obj) -> bool
     ensures { result ≡ list_any (value_holds names_of.now req obj) values.now }
 {
-    values.iter().any(|value| value_holds(value, names_of, req, obj))
+    values
+        .iter()
+        .any(|value| value_holds(value, names_of, req, obj))
 }

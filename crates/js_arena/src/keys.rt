@@ -39,7 +39,11 @@ fn with_digit(number: u32, unit: u16) -> u32
 {
     let digit = unit.saturating_sub(48) as u64;
     let more = number as u64 * 10 + digit;
-    if more < 4_294_967_295 { more as u32 } else { 4_294_967_295 }
+    if more < 4_294_967_295 {
+        more as u32
+    } else {
+        4_294_967_295
+    }
 }
 
 fn number_of(key: &[u16]) -> u32
@@ -51,7 +55,11 @@ fn number_of(key: &[u16]) -> u32
 fn below_greatest(canonical: bool, number: u32) -> Option<u32>
     ensures { result ≡ (if canonical && nat_lt number 4294967295 then Some number else None) }
 {
-    if canonical && number < 4_294_967_295 { Some(number) } else { None }
+    if canonical && number < 4_294_967_295 {
+        Some(number)
+    } else {
+        None
+    }
 }
 
 /// The number of a key that is an array index: the decimal digits of a number below 4,294,967,295

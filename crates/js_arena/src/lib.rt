@@ -14,6 +14,6 @@ pub use js_names::refused_name;
 pub use keys::array_index;
 pub use props::{Props, ShortText};
 pub use value::{
-    ArenaEnd, ArrayCall, Cell, CellNo, ErrKind, HandleName, HandleNo, Msg, NameSpace, Native, OpEnd,
-    StringCall, Value,
+    ArenaEnd, ArrayCall, Cell, CellNo, ErrKind, HandleName, HandleNo, Msg, NameSpace, Native,
+    OpEnd, StringCall, Value,
 };

@@ -141,7 +141,11 @@ fn find_value(map: &IndexMap<Vec<u16>, Value>, key: &[u16]) -> Option<Value>
 }
 
 #[tactic(auto, using(crate::proofs::PairsKept::pairs_insert))]
-fn put_entry(map: &mut IndexMap<Vec<u16>, Value>, key: Vec<u16>, value: Value) -> Result<(), NoMemory>
+fn put_entry(
+    map: &mut IndexMap<Vec<u16>, Value>,
+    key: Vec<u16>,
+    value: Value,
+) -> Result<(), NoMemory>
     ensures ok { OnOk result (pairs_of map.new.entries ≡ put_prop key.items value (pairs_of map.old.entries)) }
     ensures err { OnErr result (map.new.entries ≡ map.old.entries) }
 {

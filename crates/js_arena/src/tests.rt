@@ -26,7 +26,10 @@ fn cells(alloc: Global) -> Result<Vec<(Cell, u32)>, Fail> {
     rows.push((Cell::Variable(None), 2))?;
     rows.push((Cell::Object(Props::new(alloc)?), 8))?;
     rows.push((Cell::Object(object(alloc, &[b"a", b"b", b"a"])?), 16))?;
-    rows.push((Cell::Array(Seq::copy(alloc, &[Value::Null, Value::Null, Value::Null])?), 14))?;
+    rows.push((
+        Cell::Array(Seq::copy(alloc, &[Value::Null, Value::Null, Value::Null])?),
+        14,
+    ))?;
     rows.push((Cell::Function(3), 8))?;
     rows.push((Cell::Activation, 8))?;
     rows.push((Cell::Error(ErrKind::TypeError, Msg::RefusedName(name)), 16))?;
@@ -45,7 +48,10 @@ fn cells_take_their_units(rt: HostRuntime) -> Result<(), Fail> {
     }
     for (cell, want) in cells(alloc)? {
         let mut arena = Arena::new(alloc, want.saturating_sub(1));
-        assert!(rt; matches!(arena.alloc_cell(cell), Err(ArenaEnd::Full)), "{want}");
+        assert!(rt;
+            matches!(arena.alloc_cell(cell), Err(ArenaEnd::Full)),
+            "{want}"
+        );
         assert_eq!(rt; arena.used(), 0);
     }
     Ok(())
@@ -54,14 +60,36 @@ fn cells_take_their_units(rt: HostRuntime) -> Result<(), Fail> {
 #[test]
 fn index_keys_come_first(rt: HostRuntime) -> Result<(), Fail> {
     let alloc = rt.alloc();
-    let made: [&[u8]; 8] = [b"b", b"10", b"a", b"4294967295", b"2", b"1", b"01", b"4294967294"];
-    let want: [&[u8]; 8] = [b"1", b"2", b"10", b"4294967294", b"b", b"a", b"4294967295", b"01"];
+    let made: [&[u8]; 8] = [
+        b"b",
+        b"10",
+        b"a",
+        b"4294967295",
+        b"2",
+        b"1",
+        b"01",
+        b"4294967294",
+    ];
+    let want: [&[u8]; 8] = [
+        b"1",
+        b"2",
+        b"10",
+        b"4294967294",
+        b"b",
+        b"a",
+        b"4294967295",
+        b"01",
+    ];
     let props = object(alloc, &made)?;
     let keys = props.keys(alloc)?;
     assert_eq!(rt; keys.len(), want.len());
     for (at, text) in want.iter().enumerate() {
         let text = units(alloc, *text)?;
-        assert!(rt; keys.get(at).is_some_and(|key| key.as_slice() == text.as_slice()), "{at}");
+        assert!(rt;
+            keys.get(at)
+                .is_some_and(|key| key.as_slice() == text.as_slice()),
+            "{at}"
+        );
     }
     Ok(())
 }

@@ -6,9 +6,10 @@ use Rattle.js_arena.proofs.arena.Arena.hand.Goals.{in-Ok, in-Err}
 
 pub returns-clause-number : goal.returns-clause-number
 returns-clause-number c =
+    let number = λ (h : Heap). handle_no c.args.name h.handles in
     elim c.match-insert_full.branch [
-    in-Ok w ↦ rw w.result-is (w.in-Ok.ensures.index ∙ ap (λ (h : Heap). handle_no c.args.name h.handles) c.self.view_is)
-    | in-Err w ↦ rw w.result-is tt
+      | in-Ok w ↦ rw w.result-is (w.in-Ok.ensures.index ∙ ap number c.self.view_is)
+      | in-Err w ↦ rw w.result-is tt
     ]
 
 pub returns-clause-ok : goal.returns-clause-ok
@@ -16,6 +17,6 @@ returns-clause-ok c =
     let h = c.self.inside in
     let seen = λ (names : List HandleName). heap_of h.cells.items h.texts names h.total h.limit in
     elim c.match-insert_full.branch [
-    in-Ok w ↦ rw w.result-is (ap seen w.in-Ok.ensures.keys ∙ ap (with_handle c.args.name) c.self.view_is)
-    | in-Err w ↦ rw w.result-is tt
+      | in-Ok w ↦ rw w.result-is (ap seen w.in-Ok.ensures.keys ∙ ap (with_handle c.args.name) c.self.view_is)
+      | in-Err w ↦ rw w.result-is tt
     ]
