@@ -1,9 +1,10 @@
 -- The number of digits, up to 2 ^ 53, is that which they spell.
 use Rattle.std.proofs.Common.{◌≡◌, ◌∙◌, ap, ℕ, ◌+◌, ◌-◌, ◌*◌, Bool, List, [], ◌∷◌, refl, arith, rules}
-use Rattle.std.specs.Prelude.{fold, nat_lt, nat_le, ◌&&◌, Ok, Err, pos, if◌then◌else◌}
+use Rattle.std.specs.Prelude.{fold, nat_lt, nat_le, ◌&&◌, Result, Ok, Err, ℤ, pos, if◌then◌else◌}
 use Rattle.std.specs.List.{list_all}
 use Rattle.std.proofs.lemmas.Bool.Decides.{nat_tests}
 use Rattle.js_arena.specs.Keys.{is_digit, spelled}
+use Rattle.js_ops.specs.declared.kinds.Fault.{Fault}
 use Rattle.js_ops.specs.declared.kinds.Fault.TheVariants.{NotSafe}
 use Rattle.js_ops.specs.Capped.{cap, digit_step, capped}
 use Rattle.js_ops.specs.Convert.{spelled_number}
@@ -18,10 +19,12 @@ fold_cap n (c ∷ cs) = ap (λ (m : ℕ). fold digit_step m cs) (cap_step n c) �
 pub capped_is : (units : List ℕ) → capped units ≡ cap (spelled units)
 capped_is units = fold_cap 0 units
 
+abbrev below : Bool → ℕ → Result ℤ Fault
+below b n = if b && nat_lt n 9007199254740992 then Ok (pos n) else Err NotSafe
+
 chosen : (b : Bool) (n m : ℕ) → m ≡ cap n
-    → (if b && nat_lt m 9007199254740992 then Ok (pos m) else Err NotSafe) ≡ (if b && nat_le n 9007199254740991 then Ok (pos n) else Err NotSafe)
+    → below b m ≡ (if b && nat_le n 9007199254740991 then Ok (pos n) else Err NotSafe)
 chosen b n m e = grind (arith, nat_tests)
 
-pub same_number : (units : List ℕ)
-    → (if list_all is_digit units && nat_lt (capped units) 9007199254740992 then Ok (pos (capped units)) else Err NotSafe) ≡ spelled_number units
+pub same_number : (units : List ℕ) → below (list_all is_digit units) (capped units) ≡ spelled_number units
 same_number units = chosen (list_all is_digit units) (spelled units) (capped units) (capped_is units)

@@ -1,5 +1,6 @@
 -- Equality and order of values (ECMA-262, sections 7.2.13 and 7.2.14).
-use Rattle.std.specs.Prelude.{ℕ, ◌+◌, ◌==◌, Bool, true, false, not, List, Option, Some, None, Result, Ok, Err, ℤ, bytes_eq, if◌then◌else◌}
+use Rattle.std.specs.Prelude.{ℕ, ◌+◌, ◌==◌, Bool, true, false, not, List, Option, Some, None, Result, Ok, Err, ℤ}
+use Rattle.std.specs.Prelude.{bytes_eq, if◌then◌else◌}
 use Rattle.std.specs.declared.cmp.Ordering.{Ordering}
 use Rattle.std.specs.Ordering.{nat_cmp, int_cmp, int_eq}
 use Rattle.std.specs.Cmp.Lexicographic.{slice_cmp}
@@ -27,6 +28,7 @@ kind_no kind.RangeError = 2
 kind_no kind.ReferenceError = 3
 kind_no kind.SyntaxError = 4
 
+-- another number for each member of a string, counted from 0
 abbrev pub string_call_no : StringCall → ℕ
 string_call_no string.CharCodeAt = 0
 string_call_no string.IndexOf = 1
@@ -37,6 +39,7 @@ string_call_no string.Slice = 5
 string_call_no string.Split = 6
 string_call_no string.Trim = 7
 
+-- another number for each member of an array, counted from 0
 abbrev pub array_call_no : ArrayCall → ℕ
 array_call_no array.Push = 0
 array_call_no array.Pop = 1
@@ -49,12 +52,14 @@ array_call_no array.Map = 7
 array_call_no array.Filter = 8
 array_call_no array.ForEach = 9
 
+-- another number for each name space, counted from 0
 abbrev pub space_no : NameSpace → ℕ
 space_no space.Console = 0
 space_no space.Json = 1
 space_no space.Object = 2
 space_no space.Array = 3
 
+-- built-ins by numbers that all differ, those of a family from a ten of its own
 abbrev pub native_no : Native → ℕ
 native_no native.Log = 0
 native_no native.JsonParse = 1
@@ -81,6 +86,7 @@ same_plain (value.Native a) (value.Native b) = native_no a == native_no b
 same_plain (value.Handle a) (value.Handle b) = a.0 == b.0
 same_plain _ _ = false
 
+-- two strings by their units, no string beside another value, and else what is given for other values
 abbrev pub same_or : Option (List ℕ) → Option (List ℕ) → Bool → Bool
 same_or (Some s) (Some t) other = bytes_eq s t
 same_or (Some s) None other = false
@@ -98,9 +104,11 @@ of_both f (Ok x) (Ok y) = f x y
 of_both f (Ok x) (Err fault) = Err fault
 of_both f (Err fault) other = Err fault
 
+-- which of two integers is the less, as an answer without fault
 abbrev pub ordered : ℤ → ℤ → Result Ordering Fault
 ordered a b = Ok (int_cmp a b)
 
+-- two strings unit by unit from the front, and else what is given for other values
 abbrev pub order_or : Option (List ℕ) → Option (List ℕ) → Result Ordering Fault → Result Ordering Fault
 order_or (Some s) (Some t) other = Ok (slice_cmp nat_cmp s t)
 order_or (Some s) None other = other

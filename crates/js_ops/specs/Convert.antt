@@ -1,5 +1,6 @@
 -- Conversions of values (ECMA-262, sections 7.1.2, 7.1.4 and 7.1.17). Objects are not converted.
-use Rattle.std.specs.Prelude.{ℕ, codes, ◌==◌, ◌&&◌, Bool, true, false, not, List, [], ◌∷◌, length, nat_le, nat_lt, Option, Some, None, is_some, Result, Ok, Err, ℤ, pos, if◌then◌else◌}
+use Rattle.std.specs.Prelude.{ℕ, codes, ◌==◌, ◌&&◌, Bool, true, false, not, List, [], ◌∷◌, length, nat_le, nat_lt}
+use Rattle.std.specs.Prelude.{Option, Some, None, is_some, Result, Ok, Err, ℤ, pos, if◌then◌else◌}
 use Rattle.std.specs.List.{list_all}
 use Rattle.std.specs.Ordering.{int_eq}
 use Rattle.std.specs.Fmt.{signed_decimal}
@@ -11,6 +12,7 @@ use Rattle.js_ops.specs.declared.kinds.Fault.{Fault}
 use Rattle.js_ops.specs.declared.kinds.Fault.TheVariants.{NotConvertible, NotSafe}
 use Rattle.js_ops.specs.Numbers.{difference}
 
+-- the value is a string
 abbrev pub is_text : Value → Heap → Bool
 is_text v h = is_some (text_of v h)
 
@@ -23,10 +25,12 @@ plain_text (BoolValue false) = Ok (codes "false")
 plain_text (Number n) = Ok (signed_decimal n)
 plain_text _ = Err NotConvertible
 
+-- a string as it is, and any other value converted
 abbrev pub text_or : Option (List ℕ) → Value → Result (List ℕ) Fault
 text_or (Some t) v = Ok t
 text_or None v = plain_text v
 
+-- ToString: the units that a value is written with, or why it is not written
 abbrev pub to_text : Value → Heap → Result (List ℕ) Fault
 to_text v h = text_or (text_of v h) v
 
@@ -40,6 +44,7 @@ abbrev pub digits_number : List ℕ → Result ℤ Fault
 digits_number [] = Err NotSafe
 digits_number (c ∷ cs) = spelled_number (c ∷ cs)
 
+-- 0 less the number; a fault stays as it is
 abbrev pub negated : Result ℤ Fault → Result ℤ Fault
 negated (Ok n) = difference (pos 0) n
 negated (Err fault) = Err fault
@@ -58,10 +63,12 @@ plain_number (BoolValue false) = Ok (pos 0)
 plain_number (Number n) = Ok n
 plain_number _ = Err NotConvertible
 
+-- what a string spells, and any other value converted
 abbrev pub number_or : Option (List ℕ) → Value → Result ℤ Fault
 number_or (Some t) v = text_number t
 number_or None v = plain_number v
 
+-- ToNumber: the safe integer of a value, or why it has none
 abbrev pub to_number : Value → Heap → Result ℤ Fault
 to_number v h = number_or (text_of v h) v
 
@@ -73,6 +80,7 @@ plain_truth (BoolValue b) = b
 plain_truth (Number n) = not (int_eq n (pos 0))
 plain_truth _ = true
 
+-- a string is true where it has a unit, and any other value by itself
 abbrev pub truth_or : Option (List ℕ) → Value → Bool
 truth_or (Some t) v = nat_lt 0 (length t)
 truth_or None v = plain_truth v

@@ -36,9 +36,11 @@ made_in (Gives t) h = text_in t h
 made_in (GivesValue v) h = (h, Ok v)
 made_in (Throws fault) h = (h, Err (thrown fault))
 
+-- the heap after an operator between two operands, with its value or end
 abbrev pub binary_of : Binary → Value → Value → Heap → Heap × Result Value OpEnd
 binary_of op a b h = made_in (binary_computed op a b h) h
 
+-- the heap after an operator before an operand, with its value or end
 abbrev pub unary_of : Unary → Value → Heap → Heap × Result Value OpEnd
 unary_of op v h = made_in (unary_computed op v h) h
 

@@ -1,5 +1,6 @@
 ghost use Rattle.std.specs.Prelude.{◌≡◌};
-ghost use Rattle.js_ops.specs.Compare.{kind_no, string_call_no, array_call_no, space_no, native_no, same_plain, identical, order, of_both, ordered};
+ghost use Rattle.js_ops.specs.Compare.{kind_no, string_call_no, array_call_no, space_no, native_no, same_plain};
+ghost use Rattle.js_ops.specs.Compare.{identical, order, of_both, ordered};
 
 use crate::convert::to_number;
 use crate::kinds::Fault;

@@ -1,14 +1,15 @@
 ghost use Rattle.std.specs.Prelude.{◌≡◌, Ok, IfOk};
 ghost use Rattle.std.specs.List.{list_all};
 ghost use Rattle.js_arena.specs.Keys.{is_digit};
-ghost use Rattle.js_ops.specs.Convert.{to_text, plain_text, to_number, plain_number, text_number, spelled_number, digits_number, negated, truth, plain_truth};
+ghost use Rattle.js_ops.specs.Convert.{to_text, plain_text, to_number, plain_number, text_number, spelled_number};
+ghost use Rattle.js_ops.specs.Convert.{digits_number, negated, truth, plain_truth};
 ghost use Rattle.js_ops.specs.Capped.{digit_step, capped};
 
 use crate::kinds::Fault;
 use crate::numbers::difference;
 use js_arena::{Arena, Value};
 use std::alloc::Global;
-use wd_base::{decimal, NoMemory, Seq, Units};
+use wd_base::{NoMemory, Seq, Units, decimal};
 
 /// The units that are the bytes' numbers.
 pub fn widened(alloc: Global, bytes: &[u8]) -> Result<Units, NoMemory>
@@ -46,7 +47,11 @@ fn plain_text(alloc: Global, value: Value) -> Result<Result<Units, Fault>, NoMem
 
 /// The text of a value (ECMA-262, section 7.1.17): a string as it is, a number in decimal, `true`,
 /// `false`, `null` or `undefined`. Any other value is not convertible.
-pub fn text_of_value(alloc: Global, arena: &Arena, value: Value) -> Result<Result<Units, Fault>, NoMemory>
+pub fn text_of_value(
+    alloc: Global,
+    arena: &Arena,
+    value: Value,
+) -> Result<Result<Units, Fault>, NoMemory>
     ensures { IfOk result (λ text. text ≡ to_text value arena.now) }
 {
     match arena.text(value) {
@@ -73,13 +78,19 @@ fn with_digit(number: u64, unit: u16) -> u64
 {
     let digit = unit.saturating_sub(48) as u128;
     let more = number as u128 * 10 + digit;
-    if more < 9007199254740992 { more as u64 } else { 9007199254740992 }
+    if more < 9007199254740992 {
+        more as u64
+    } else {
+        9007199254740992
+    }
 }
 
 fn capped(units: &[u16]) -> u64
     ensures { result ≡ capped units.now }
 {
-    units.iter().fold(0, |number, unit| with_digit(number, *unit))
+    units
+        .iter()
+        .fold(0, |number, unit| with_digit(number, *unit))
 }
 
 /// The number that digits spell, where it is safe.
@@ -88,7 +99,11 @@ fn spelled_number(units: &[u16]) -> Result<i64, Fault>
     ensures { result ≡ spelled_number units.now }
 {
     let number = capped(units);
-    if all_digits(units) && number < 9007199254740992 { Ok(number as i64) } else { Err(Fault::NotSafe) }
+    if all_digits(units) && number < 9007199254740992 {
+        Ok(number as i64)
+    } else {
+        Err(Fault::NotSafe)
+    }
 }
 
 /// The number of digits, one at least.
@@ -117,7 +132,11 @@ fn text_number(units: &[u16]) -> Result<i64, Fault>
 {
     match units {
         [] => Ok(0),
-        [first, rest @ ..] => if *first == 45 { negated(digits_number(rest)) } else { digits_number(units) },
+        [first, rest @ ..] => if *first == 45 {
+            negated(digits_number(rest))
+        } else {
+            digits_number(units)
+        },
     }
 }
 

@@ -60,7 +60,11 @@ pub fn remainder(a: i64, b: i64) -> Result<i64, Fault>
         return Err(Fault::DivisionByZero);
     }
     let rest = a.wrapping_rem(b);
-    if is_safe(rest) { Ok(rest) } else { Err(Fault::NotSafe) }
+    if is_safe(rest) {
+        Ok(rest)
+    } else {
+        Err(Fault::NotSafe)
+    }
 }
 
 /// The result of an operation on two numbers.

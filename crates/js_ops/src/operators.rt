@@ -3,7 +3,9 @@ ghost use Rattle.std.specs.Option.{option_copied};
 ghost use Rattle.js_ops.specs.Numbers.{result_of};
 ghost use Rattle.js_ops.specs.Compare.{of_both};
 ghost use Rattle.js_ops.specs.Convert.{is_text};
-ghost use Rattle.js_ops.specs.Operators.{join, bool_made, native_type, cell_type, plain_type, type_name, text_made, number_made, passes, tested, joined, added, of_numbers, binary_computed, unary_computed};
+ghost use Rattle.js_ops.specs.Operators.{join, bool_made, native_type, cell_type, plain_type, type_name, text_made};
+ghost use Rattle.js_ops.specs.Operators.{number_made, passes, tested, joined, added, of_numbers, binary_computed};
+ghost use Rattle.js_ops.specs.Operators.{unary_computed};
 ghost use Rattle.js_ops.specs.Ops.{Ops, binary_of, unary_of, thrown, made_in, text_in};
 
 use crate::compare::{identical, order};
@@ -110,7 +112,13 @@ fn bool_made(value: bool) -> Computed
     Computed::GivesValue(Value::Bool(value))
 }
 
-fn binary_computed(alloc: Global, arena: &Arena, op: Binary, a: Value, b: Value) -> Result<Computed, NoMemory>
+fn binary_computed(
+    alloc: Global,
+    arena: &Arena,
+    op: Binary,
+    a: Value,
+    b: Value,
+) -> Result<Computed, NoMemory>
     ensures { IfOk result (λ made. made ≡ binary_computed op a b arena.now) }
 {
     match op {
@@ -177,7 +185,12 @@ fn type_made(alloc: Global, arena: &Arena, value: Value) -> Result<Computed, NoM
     Ok(Computed::Gives(units))
 }
 
-fn unary_computed(alloc: Global, arena: &Arena, op: Unary, value: Value) -> Result<Computed, NoMemory>
+fn unary_computed(
+    alloc: Global,
+    arena: &Arena,
+    op: Unary,
+    value: Value,
+) -> Result<Computed, NoMemory>
     ensures { IfOk result (λ made. made ≡ unary_computed op value arena.now) }
 {
     match op {
@@ -222,7 +235,13 @@ fn made_in(arena: &mut Arena, made: Computed) -> Result<Value, OpEnd>
 
 /// The value of an operator between two operands. What is thrown comes before want of room, which
 /// comes exactly where a new string does not fit; the heap is then as it was.
-pub fn binary(alloc: Global, arena: &mut Arena, op: Binary, a: Value, b: Value) -> Result<Value, OpEnd>
+pub fn binary(
+    alloc: Global,
+    arena: &mut Arena,
+    op: Binary,
+    a: Value,
+    b: Value,
+) -> Result<Value, OpEnd>
     ensures { Ops (binary_of op a b) arena.old arena.new result }
 {
     match binary_computed(alloc, arena, op, a, b) {
