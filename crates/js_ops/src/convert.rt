@@ -1,4 +1,5 @@
-ghost use Rattle.std.specs.Prelude.{◌≡◌, Ok, IfOk};
+ghost use Rattle.std.specs.Prelude.{◌≡◌, ◌&&◌, Ok, Err, IfOk, nat_lt, pos, if◌then◌else◌};
+ghost use Rattle.js_ops.specs.declared.kinds.Fault.TheVariants.{NotSafe};
 ghost use Rattle.std.specs.List.{list_all};
 ghost use Rattle.js_arena.specs.Keys.{is_digit};
 ghost use Rattle.js_ops.specs.Convert.{to_text, plain_text, to_number, plain_number, text_number, spelled_number};
@@ -93,17 +94,22 @@ fn capped(units: &[u16]) -> u64
         .fold(0, |number, unit| with_digit(number, *unit))
 }
 
+fn below_greatest(digits: bool, number: u64) -> Result<i64, Fault>
+    ensures { result ≡ (if digits && nat_lt number 9007199254740992 then Ok (pos number) else Err NotSafe) }
+{
+    if digits && number < 9007199254740992 {
+        Ok(number as i64)
+    } else {
+        Err(Fault::NotSafe)
+    }
+}
+
 /// The number that digits spell, where it is safe.
 #[tactic(auto, using(crate::proofs::Digits::same_number))]
 fn spelled_number(units: &[u16]) -> Result<i64, Fault>
     ensures { result ≡ spelled_number units.now }
 {
-    let number = capped(units);
-    if all_digits(units) && number < 9007199254740992 {
-        Ok(number as i64)
-    } else {
-        Err(Fault::NotSafe)
-    }
+    below_greatest(all_digits(units), capped(units))
 }
 
 /// The number of digits, one at least.

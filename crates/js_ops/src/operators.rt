@@ -147,7 +147,7 @@ fn native_type(native: Native) -> &'static [u8]
 }
 
 fn cell_type(cell: Option<&Cell>) -> &'static [u8]
-    ensures { result.now ≡ cell_type (option_copied cell) }
+    ensures { result.now ≡ cell_type (option_copied cell.entry) }
 {
     match cell {
         Some(Cell::Function(_)) => b"function",
