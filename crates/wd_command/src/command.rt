@@ -1,5 +1,5 @@
 ghost use Rattle.std.specs.Prelude.{◌≡◌, IfOk, map, option_map, string_bytes};
-ghost use Rattle.clap.specs.Words.{found_of, rows_of, subcommand_rows_of};
+ghost use Rattle.clap.specs.Words.{first_of, found_of, rows_of, subcommand_rows_of};
 ghost use Rattle.wd_command.specs.Command.{asked_in, asked_of, command, given, is_on, is_one, is_serve, run, verb_of};
 ghost use Rattle.wd_command.specs.Command.{wish, wish_of};
 
@@ -89,18 +89,25 @@ fn given<'a>(verb: Option<Verb>, matches: &ArgMatches<'a>) -> Asks<'a>
 {
     if is_on(matches, "help") {
         Asks::Help
-    } else if is_one(matches.get_str("threads")) {
-        run(verb, matches.get_str("config"), matches.get_str("const"))
+    } else if is_one(value_of(matches, "threads")) {
+        run(verb, value_of(matches, "config"), value_of(matches, "const"))
     } else {
         Asks::Fault
     }
+}
+
+/// The value of this name.
+fn value_of<'a>(matches: &ArgMatches<'a>, name: &str) -> Option<&'a str>
+    ensures { option_map (λ value. value.now) result ≡ first_of name.now (rows_of (found_of matches.now)) }
+{
+    matches.get_str(name)
 }
 
 /// Whether the option without a value was given.
 fn is_on(matches: &ArgMatches<'_>, name: &str) -> bool
     ensures { result ≡ is_on name.now (rows_of (found_of matches.now)) }
 {
-    match matches.get_str(name) {
+    match value_of(matches, name) {
         Some(value) => value == "true",
         None => false,
     }

@@ -6,7 +6,7 @@ use crate::command::Asks;
 
 /// The status and the text that is printed for words that are no command. A command has neither.
 pub fn shown(asks: Asks<'_>) -> Option<(u8, &'static [u8])>
-    ensures { option_map (λ p. (p.0, p.1.now)) result ≡ shown (wish_of asks) }
+    ensures { option_map (λ p. (p.0, p.1.now)) result ≡ shown (wish_of asks.entry) }
 {
     match asks {
         Asks::Run(_) => None,

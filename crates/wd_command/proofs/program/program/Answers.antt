@@ -1,37 +1,42 @@
-use Rattle.std.proofs.Common.{rules, ap, ap₂, codes, ◌≡◌, ◌∙◌}
+use Rattle.std.proofs.Common.{ap, ◌≡◌, ◌∙◌}
 use Rattle.std.proofs.lemmas.Result.{IfOk-weaker}
-use Rattle.clap.specs.Words.{App, app_of, rule_of, with_rule, with_subcommand}
-use Rattle.wd_command.specs.Program.{word, option, flag, on_config, serve, check, plain, top}
+use Rattle.clap.specs.Words.{App, app_of, fields_of}
+use Rattle.wd_command.specs.Program.{serve, check, plain, top}
+use Rattle.wd_command.proofs.ProgramLemmas.{Is, adds_arg, adds_command, flag_arg, option_arg}
 use Rattle.wd_command.proofs.program.program.Goals as goal
 
 pub returns : goal.returns
 returns c =
-    let serve_config_is : rule_of c.new-serve_config.result ≡ word (codes "config") = search rules in
-    let serve_constant_is : rule_of c.new-serve_constant.result ≡ word (codes "const") = search rules in
-    let threads_is : rule_of c.long-serve_threads.result ≡ option (codes "threads") = search rules in
-    let serve_help_is : rule_of c.action-serve_help.result ≡ flag (codes "help") = search rules in
-    let check_config_is : rule_of c.new-check_config.result ≡ word (codes "config") = search rules in
-    let check_constant_is : rule_of c.new-check_constant.result ≡ word (codes "const") = search rules in
-    let check_help_is : rule_of c.action-check_help.result ≡ flag (codes "help") = search rules in
-    let help_is : rule_of c.action-help.result ≡ flag (codes "help") = search rules in
-    let version_is : rule_of c.action-version.result ≡ flag (codes "version") = search rules in
-    let on_serve : app_of c.in_ok-arg-2.field-0 ≡ on_config (codes "serve") = c.in_ok-arg-2.ensures.shape (search rules)
-    ∙ ap₂ with_rule (c.in_ok-arg.ensures.shape (search rules) ∙ ap₂ with_rule c.new-3.ensures.app serve_config_is) serve_constant_is in
-    let serve_is : app_of c.in_ok-serve.serve ≡ serve = c.in_ok-serve.ensures.shape (search rules)
-    ∙ ap₂ with_rule (c.in_ok-arg-3.ensures.shape (search rules) ∙ ap₂ with_rule on_serve threads_is) serve_help_is in
-    let on_check : app_of c.in_ok-arg-5.field-0 ≡ on_config (codes "check") = c.in_ok-arg-5.ensures.shape (search rules)
-    ∙ ap₂ with_rule (c.in_ok-arg-4.ensures.shape (search rules) ∙ ap₂ with_rule c.new-5.ensures.app check_config_is) check_constant_is in
-    let check_is : app_of c.in_ok-check.check ≡ check = c.in_ok-check.ensures.shape (search rules)
-    ∙ ap₂ with_rule on_check check_help_is in
-    let top_is : app_of c.disable_version_flag-top.result ≡ top = rw (
+    let serve_config = (c.new-serve_config.ensures.rule, c.new-serve_config.ensures.optional.1) in
+    let serve_constant = (c.new-serve_constant.ensures.rule, c.new-serve_constant.ensures.optional.1) in
+    let serve_threads = option_arg _ _ _ (c.new.ensures.rule, c.new.ensures.optional.1) c.long-serve_threads.ensures in
+    let serve_help = flag_arg _ _ _ _ (c.new-2.ensures.rule, c.new-2.ensures.optional.1) c.long.ensures c.action-serve_help.ensures in
+    let serve_1 = adds_arg _ _ _ _ _ (c.new-3.ensures.app, c.new-3.ensures.local) serve_config c.in_ok-arg.ensures in
+    let serve_2 = adds_arg _ _ _ _ _ serve_1 serve_constant c.in_ok-arg-2.ensures in
+    let serve_3 = adds_arg _ _ _ _ _ serve_2 serve_threads c.in_ok-arg-3.ensures in
+    let serve_is : Is serve c.in_ok-serve.serve = adds_arg _ _ _ _ _ serve_3 serve_help c.in_ok-serve.ensures in
+    let check_config = (c.new-check_config.ensures.rule, c.new-check_config.ensures.optional.1) in
+    let check_constant = (c.new-check_constant.ensures.rule, c.new-check_constant.ensures.optional.1) in
+    let check_help = flag_arg _ _ _ _ (c.new-4.ensures.rule, c.new-4.ensures.optional.1) c.long-2.ensures c.action-check_help.ensures in
+    let check_1 = adds_arg _ _ _ _ _ (c.new-5.ensures.app, c.new-5.ensures.local) check_config c.in_ok-arg-4.ensures in
+    let check_2 = adds_arg _ _ _ _ _ check_1 check_constant c.in_ok-arg-5.ensures in
+    let check_is : Is check c.in_ok-check.check = adds_arg _ _ _ _ _ check_2 check_help c.in_ok-check.ensures in
+    let help = flag_arg _ _ _ _ (c.new-6.ensures.rule, c.new-6.ensures.optional.1) c.long-3.ensures c.action-help.ensures in
+    let version = flag_arg _ _ _ _ (c.new-7.ensures.rule, c.new-7.ensures.optional.1) c.long-4.ensures c.action-version.ensures in
+    let top_app : app_of c.disable_version_flag-top.result ≡ top = rw (
       c.disable_version_flag-top.ensures,
       c.disable_help_subcommand.ensures,
       c.disable_help_flag.ensures,
       c.no_binary_name.ensures,
     ) (ap (λ (a : App). record { top = plain a.top; subs = a.subs }) c.new-8.ensures.app) in
-    let flags_are = c.in_ok-arg-7.ensures.shape (search rules)
-    ∙ ap₂ with_rule (c.in_ok-arg-6.ensures.shape (search rules) ∙ ap₂ with_rule top_is help_is) version_is in
-    let with_serve = c.in_ok-subcommand.ensures.shape (search rules)
-    ∙ ap₂ with_subcommand flags_are (ap (λ (a : App). a.top) serve_is) in
-    IfOk-weaker c.subcommand-2.result _ _ (λ r h. h.shape (search rules)
-    ∙ ap₂ with_subcommand with_serve (ap (λ (a : App). a.top) check_is)) c.subcommand-2.ensures
+    let top_local = rw (
+      c.disable_version_flag-top.ensures,
+      c.disable_help_subcommand.ensures,
+      c.disable_help_flag.ensures,
+      c.no_binary_name.ensures,
+    ) c.new-8.ensures.local in
+    let top_is : Is top c.disable_version_flag-top.result = (top_app, top_local) in
+    let top_1 = adds_arg _ _ _ _ _ top_is help c.in_ok-arg-6.ensures in
+    let top_2 = adds_arg _ _ _ _ _ top_1 version c.in_ok-arg-7.ensures in
+    let with_serve = adds_command _ _ _ _ _ top_2 serve_is c.in_ok-subcommand.ensures in
+    IfOk-weaker c.subcommand-2.result _ _ (λ r h. (adds_command _ _ _ _ _ with_serve check_is h).0) c.subcommand-2.ensures
