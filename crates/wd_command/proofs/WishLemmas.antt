@@ -7,7 +7,7 @@ use Rattle.clap.specs.declared.parser.matches.ArgMatches.{ArgMatches}
 use Rattle.clap.specs.declared.parser.matches.ArgMatches.TheViews.{out-ArgMatches, out-SubCommand}
 use Rattle.clap.specs.declared.parser.matches.SubCommand.{SubCommand}
 use Rattle.clap.proofs.OnLiterals.{clap_on_literals}
-use Rattle.wd_command.specs.Command.{Wish, asked_in, by_command, given, verb_of, wish}
+use Rattle.wd_command.specs.Command.{asked_in, by_command, given, verb_of, wish}
 use Rattle.wd_command.specs.Program.{program}
 
 -- the program is one of which clap says the matches

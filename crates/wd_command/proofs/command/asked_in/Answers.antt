@@ -1,7 +1,7 @@
-use Rattle.std.proofs.Common.{◌≡◌, ◌∙◌, ap, sym}
-use Rattle.clap.specs.Words.{found_of, rows_of, subcommand_rows_of}
+use Rattle.std.proofs.Common.{◌∙◌, ap, sym}
+use Rattle.clap.specs.Words.{found_of, rows_of}
 use Rattle.wd_command.proofs.WishLemmas.{by_command_is}
-use Rattle.wd_command.specs.Command.{asked_in, given, wish_of}
+use Rattle.wd_command.specs.Command.{given}
 use Rattle.wd_command.proofs.command.asked_in.Goals as goal
 
 pub returns-in-Some : goal.returns-in-Some
