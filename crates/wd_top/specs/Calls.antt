@@ -64,7 +64,7 @@ KeepFiles plan maker told ports = All (λ p. IfSome (plan maker the_seat) (λ t.
 -- where files are told, the status has its cause
 abbrev pub HasCause : Call → Printed → ℕ → Type 0
 HasCause call printed status = IfSome call.files (λ s.
-  IsStatus call.words s call.read_failed (Rose printed.failures_before printed.failures_after) status)
+    IsStatus call.words s call.read_failed (Rose printed.failures_before printed.failures_after) status)
 
 -- words that are no command line come to status 1, but for 4, where the sink failed, and 9
 abbrev pub RefusesWords : {Z : Type 0} → List (String Z) → Printed → ℕ → Type 0

@@ -4,7 +4,8 @@ ghost use Rattle.wd_ports.specs.Told.{IsNewPort};
 ghost use Rattle.wd_top.specs.declared.outcome.Outcome.TheVariants as outcome;
 ghost use Rattle.wd_top.specs.Board.{IsOver};
 ghost use Rattle.wd_top.specs.Calls.{AtPorts, KeepFiles};
-ghost use Rattle.wd_top.specs.Ended.{HasPort, Holds, IsFront, IsListenEnd, IsPortFault, IsSessionEnd, Listens, NoPortMade};
+ghost use Rattle.wd_top.specs.Ended.{HasPort, Holds, IsFront, IsListenEnd, IsPortFault, IsSessionEnd};
+ghost use Rattle.wd_top.specs.Ended.{Listens, NoPortMade};
 ghost use Rattle.wd_top.specs.Table.{addresses, SameFiles};
 
 use crate::board::Board;

@@ -74,7 +74,7 @@ fn serve<R: Wait, M: Maker>(
     ensures ran { Runs world (Rose (M.failures maker.old) (M.failures maker.new)) result.outcome result.journal
         (length ports.new.items)
         (AtPorts M.Port.Files.told M.Port.Files.gone M.Port.Files.faults ports.new.items
-            result.journal.entries result.outcome world) }
+        result.journal.entries result.outcome world) }
     ensures files { KeepFiles M.plan maker.old M.Port.Files.told ports.new.items }
 {
     match Board::new(alloc, world, isolates) {
@@ -130,7 +130,7 @@ fn run<R: Wait, F: Files, M: Maker>(
         (call_over words.now F.told F.faults files.old files.new (Rose (M.failures maker.old) (M.failures maker.new)))
         result.outcome result.journal (length ports.new.items)
         (AtPorts M.Port.Files.told M.Port.Files.gone M.Port.Files.faults ports.new.items
-            result.journal.entries result.outcome) }
+        result.journal.entries result.outcome) }
     ensures words { (result.outcome ≡ no_command) ↔ IsNoCommand words.now }
     ensures tells { F.told files.new ≡ F.told files.old }
     ensures files { KeepFiles M.plan maker.old M.Port.Files.told ports.new.items }
@@ -187,8 +187,9 @@ pub fn workerd<R: Threads + Wait + Sync, F: Files, M: Maker, K: Sink, G: Gate>(
         (call_over words.now F.told F.faults files.old files.new (Rose (M.failures maker.old) (M.failures maker.new)))
         (printed_to K.held K.failures out.old out.new) result.status result.journal (length result.ports.items)
         (AtPorts M.Port.Files.told M.Port.Files.gone M.Port.Files.faults result.ports.items
-            result.journal.entries) }
-    ensures status { HasCause (call_over words.now F.told F.faults files.old files.new (Rose (M.failures maker.old) (M.failures maker.new)))
+        result.journal.entries) }
+    ensures status { HasCause
+        (call_over words.now F.told F.faults files.old files.new (Rose (M.failures maker.old) (M.failures maker.new)))
         (printed_to K.held K.failures out.old out.new) result.status }
     ensures words { RefusesWords words.now (printed_to K.held K.failures out.old out.new) result.status }
     ensures files { F.told files.new ≡ F.told files.old }
