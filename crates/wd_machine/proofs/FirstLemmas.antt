@@ -1,12 +1,14 @@
 -- The first isolates of a world's Workers, one after the other.
-use Rattle.std.proofs.Common.{◌≡◌, true, false, List, [], ◌∷◌, ◌++◌, map, Option, Some, None, sym, ap, ◌∙◌, append_assoc}
+use Rattle.std.proofs.Common.{arith, ℕ, ◌+◌, ◌≡◌, true, false, List, [], ◌∷◌, ◌++◌, map, Option, Some, None, sym, ap, ◌∙◌, append_assoc}
 use Rattle.std.specs.Prelude.{is_some}
 use Rattle.std.proofs.lemmas.Bool.{false≢true}
 use Rattle.wd_base.specs.declared.config.Service.{Service}
 use Rattle.wd_base.specs.declared.config.WorkerDef.{WorkerDef}
 use Rattle.wd_graph.specs.Names.{worker_in}
 use Rattle.wd_machine.specs.declared.state.WorkerState.{WorkerState}
-use Rattle.wd_machine.specs.First.{AreFirstOf, add, first_isolate, first_worker, started_worker, idle_worker, worker_defs, workers_among}
+use Rattle.std.specs.List.{range_with_len}
+use Rattle.std.proofs.lemmas.List.FromFn.{map-range_with_len_more}
+use Rattle.wd_machine.specs.First.{idle_seat, AreFirstOf, add, first_isolate, first_worker, started_worker, idle_worker, worker_defs, workers_among}
 use Rattle.wd_machine.specs.Meaning.{Meaning}
 
 head_same : {X : Type 0} (x y : X) (xs ys : List X) → x ∷ xs ≡ y ∷ ys → (x ≡ y) × (xs ≡ ys)
@@ -48,3 +50,7 @@ module _ {I : Type 0} (m : Meaning I) (world : List Service) (s : Service) (rest
   -- each Worker has an isolate
   pub first_missing : (isolates : List I) → isolates ≡ [] → is_some (worker_in s.kind) ≡ true → AreFirstOf m world (s ∷ rest) isolates → ⊥
   first_missing isolates same e starts = no_isolate_by (worker_in s.kind) e (starts ∙ ap (map Some) same)
+
+-- one more seat
+pub seats_more : (n : ℕ) → map idle_seat (range_with_len 0 n) ++ idle_seat n ∷ [] ≡ map idle_seat (range_with_len 0 (n + 1))
+seats_more n = sym (map-range_with_len_more idle_seat 0 n n (omega arith))

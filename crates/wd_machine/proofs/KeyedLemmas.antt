@@ -1,5 +1,5 @@
 -- Rows that are found and changed by a test.
-use Rattle.std.proofs.Common.{◌≡◌, ℕ, zero, suc, ◌+◌, ◌<◌, Bool, true, false, if◌then◌else◌, List, [], ◌∷◌, length, get_or, set, Some, None, refl, ap, arith}
+use Rattle.std.proofs.Common.{◌≡◌, ℕ, zero, suc, ◌+◌, ◌<◌, Bool, true, false, if◌then◌else◌, List, [], ◌∷◌, length, get_or, set, Some, None, is_some, option_map, Option, refl, sym, ap, ◌∙◌, arith}
 use Rattle.std.specs.List.{position_from, find}
 use Rattle.wd_machine.specs.Keyed.{change}
 
@@ -81,3 +81,24 @@ same_read p xs i d e h =
     let one = find_at p xs i d h in
     let two = find_at p xs i e h in
     cc
+
+-- a row that was read at its place and changed
+pub changed_at : {X : Type 0} (p : X → Bool) (f : X → X) (xs : List X) (i : ℕ) (x y : X) → position_from p 0 xs ≡ Some i → x ≡ get_or xs i x → y ≡ f x → set xs i y ≡ change p f xs
+changed_at p f xs i x y found read is = ap (set xs i) (is ∙ ap f read) ∙ sym (change_at p f xs i x found)
+
+some_from : {X : Type 0} (p : X → Bool) (xs : List X) (n : ℕ) → is_some (position_from p n xs) ≡ is_some (find p xs)
+some_from p [] n = refl
+some_from p (x ∷ xs) n =
+    elim (p x) as (λ b. is_some (if b then Some n else position_from p (n + 1) xs) ≡ is_some (if b then Some x else find p xs)) [
+      | true ↦ refl
+      | false ↦ some_from p xs (n + 1)
+    ]
+
+-- a row has a place exactly where there is one
+pub some_both : {X : Type 0} (p : X → Bool) (xs : List X) → is_some (position_from p 0 xs) ≡ is_some (find p xs)
+some_both p xs = some_from p xs 0
+
+-- and a place is there whatever is made of it
+pub some_map : {X Y : Type 0} (f : X → Y) (o : Option X) → is_some (option_map f o) ≡ is_some o
+some_map f None = refl
+some_map f (Some x) = refl

@@ -1,78 +1,121 @@
--- What a program's changes of the tables make of the state.
-use Rattle.std.proofs.Common.{◌≡◌, ℕ, ◌==◌, Bool, true, false, not, if◌then◌else◌, List, [], ◌∷◌, ◌++◌, map, filter, get_or, set, Option, Some, None, Result, Ok, Err, OnOk, refl, sym, ap, ◌∙◌, subst}
+-- What a program's change of one row makes of the state.
+use Rattle.std.proofs.Common.{◌≡◌, ℕ, ◌==◌, true, false, if◌then◌else◌, List, [], ◌∷◌, Option, Some, None, Result, Ok, Err, OnOk, IfOk, get_or, set, refl, sym, ap, subst, ◌∙◌}
 use Rattle.std.proofs.lemmas.Bool.{eqb-true}
 use Rattle.std.proofs.lemmas.List.{set-get_or}
-use Rattle.std.specs.List.{position_from}
-use Rattle.wd_base.specs.declared.http.ReqData.{ReqData}
+use Rattle.std.specs.List.{fold, position_from}
 use Rattle.wd_base.specs.declared.ids.Req.{Req}
 use Rattle.wd_base.specs.declared.ids.Seat.{Seat}
-use Rattle.wd_base.specs.declared.objects.ObjName.{ObjName}
-use Rattle.wd_base.specs.declared.objects.Origin.{Origin}
-use Rattle.wd_base.specs.declared.objects.Wake.TheVariants.{Start}
-use Rattle.wd_machine.specs.declared.ends.Done.{Done}
+use Rattle.wd_base.specs.declared.http.Reply.{Reply}
+use Rattle.wd_machine.specs.declared.state.Duty.{Duty}
 use Rattle.wd_machine.specs.declared.state.Pending.{Pending}
 use Rattle.wd_machine.specs.declared.state.RequestState.{RequestState}
-use Rattle.wd_machine.specs.declared.state.Run.{Run}
+use Rattle.wd_machine.specs.declared.state.SeatState.{SeatState}
 use Rattle.wd_machine.specs.declared.state.State.{State}
 use Rattle.wd_machine.specs.declared.state.Waiter.{Waiter}
 use Rattle.wd_machine.specs.declared.state.WorkerState.{WorkerState}
-use Rattle.wd_machine.specs.Ends.{waits_in, ends, whole_out, freed_by}
-use Rattle.wd_machine.specs.Found.{is_request, is_worker, request_of, worker_of, worker_for, service_at, waiters_at}
+use Rattle.wd_machine.specs.Found.{is_request, is_seat, is_worker, request_of, worker_of, seat_at, running_in, due_in}
 use Rattle.wd_machine.specs.Keyed.{change}
+use Rattle.wd_machine.specs.Places.{place_for}
 use Rattle.wd_machine.specs.Meaning.{Meaning}
-use Rattle.wd_machine.specs.Steps.{arrived, waits_too, new_request, begun, begun_by, begun_in, begun_front, begun_with, RunsFront, runs_turn, taken_by, turn_in, turn_generation, turned, turned_by, turned_in, turned_with, entry_out, TurnsRow, done_by, has_turned, given_back, named, turn_out}
-use Rattle.wd_machine.proofs.KeyedLemmas.{change_at, change_none, find_at, find_none, same_read}
+use Rattle.wd_machine.specs.Steps.{change_request, change_seat, change_worker, change_for, RunsFront, ran, runs, begun, begun_by, begun_in, begun_front, pending_of, is_dead_turn, turn_generation, turn_in, taken_by, starts_turn, freed_by, has_drained, drained, owing, answer_of, owing_answer}
+use Rattle.wd_machine.proofs.KeyedLemmas.{changed_at, change_none, find_at, find_none}
 
 -- a fact where a call answers Ok, of one that follows from it
 pub OnOk-map : {T E P Q : Type 0} (r : Result T E) → OnOk r P → (P → Q) → OnOk r Q
 OnOk-map (Ok x) p f = f p
 OnOk-map (Err e) p f = tt
 
--- a request has arrived at a Worker
-pub arrived_at : {I : Type 0} (s now : State I) (seat : Seat) (req : Req) (service : List ℕ) (origin : Origin) (allow : ℕ) (request : ReqData) (j : ℕ) (w w' : WorkerState I) (rows : List RequestState)
-    → s ≡ now → position_from (is_worker service) 0 now.workers ≡ Some j → w ≡ get_or s.workers j w → w' ≡ waits_too (record { req = req; wake = Start request }) w
-    → rows ≡ s.requests ++ new_request seat req service origin allow ∷ []
-    → record s { workers = set s.workers j w'; requests = rows } ≡ arrived now seat req service origin allow request
-arrived_at {I} s now seat req service origin allow request j w w' rows is found read more pushed =
-    let at = subst (λ (t : State I). position_from (is_worker service) 0 t.workers ≡ Some j) (sym is) found in
-    let workers = ap (set s.workers j) (more ∙ ap (waits_too (record { req = req; wake = Start request })) read) ∙ sym (change_at (is_worker service) (waits_too (record { req = req; wake = Start request })) s.workers j w at) in
-    (λ i. record s { workers = workers i; requests = pushed i }) ∙ ap (λ (t : State I). arrived t seat req service origin allow request) is
+-- the same of the value
+pub IfOk-map : {T E : Type 0} {P Q : T → Type 0} (r : Result T E) → IfOk r P → ((x : T) → P x → Q x) → IfOk r Q
+IfOk-map (Ok x) p f = f x p
+IfOk-map (Err e) p f = tt
 
--- a request has arrived at a service that is no Worker
-pub arrived_elsewhere : {I : Type 0} (s now : State I) (seat : Seat) (req : Req) (service : List ℕ) (origin : Origin) (allow : ℕ) (request : ReqData) (rows : List RequestState)
-    → s ≡ now → position_from (is_worker service) 0 now.workers ≡ None
-    → rows ≡ s.requests ++ new_request seat req service origin allow ∷ []
-    → record s { requests = rows } ≡ arrived now seat req service origin allow request
-arrived_elsewhere {I} s now seat req service origin allow request rows is found pushed =
-    let at = subst (λ (t : State I). position_from (is_worker service) 0 t.workers ≡ None) (sym is) found in
-    let workers = sym (change_none (is_worker service) (waits_too (record { req = req; wake = Start request })) s.workers at) in
-    (λ i. record s { workers = workers i; requests = pushed i }) ∙ ap (λ (t : State I). arrived t seat req service origin allow request) is
+-- one row was changed at its place
+pub request_changed : {I : Type 0} (s : State I) (req i : ℕ) (f : RequestState → RequestState) (r r' : RequestState)
+    → position_from (is_request req) 0 s.requests ≡ Some i → r ≡ get_or s.requests i r → r' ≡ f r
+    → record s { requests = set s.requests i r' } ≡ change_request req f s
+request_changed s req i f r r' found read is = λ k. record s { requests = changed_at (is_request req) f s.requests i r r' found read is k }
 
--- no such request
-pub begun_absent : {I : Type 0} (m : Meaning I) (s : State I) (seat : Seat) (req : Req)
-    → position_from (is_request req.0) 0 s.requests ≡ None → s ≡ begun m s seat req
-begun_absent m s seat req e = rw (find_none (is_request req.0) s.requests e) refl
+-- there is no such row
+pub request_kept : {I : Type 0} (s : State I) (req : ℕ) (f : RequestState → RequestState)
+    → position_from (is_request req) 0 s.requests ≡ None → s ≡ change_request req f s
+request_kept s req f found = λ k. record s { requests = sym (change_none (is_request req) f s.requests found) k }
 
-no_worker : {I : Type 0} (m : Meaning I) (s : State I) (seat : Seat) (o : Option RequestState) → worker_for o s.workers ≡ None → s ≡ begun_by m s seat o
-no_worker m s seat None e = refl
-no_worker m s seat (Some r) e = rw e refl
+-- one seat was changed at its place
+pub seat_changed : {I : Type 0} (s : State I) (seat i : ℕ) (f : SeatState → SeatState) (t t' : SeatState)
+    → position_from (is_seat seat) 0 s.seats ≡ Some i → t ≡ get_or s.seats i t → t' ≡ f t
+    → record s { seats = set s.seats i t' } ≡ change_seat seat f s
+seat_changed s seat i f t t' found read is = λ k. record s { seats = changed_at (is_seat seat) f s.seats i t t' found read is k }
 
--- no such Worker
-pub begun_no_worker : {I : Type 0} (m : Meaning I) (s : State I) (seat : Seat) (req : Req)
-    → position_from (is_worker (service_at (request_of req.0 s.requests))) 0 s.workers ≡ None → s ≡ begun m s seat req
-begun_no_worker m s seat req e = no_worker m s seat (request_of req.0 s.requests) (find_none _ s.workers e)
+-- there is no such seat
+pub seat_kept : {I : Type 0} (s : State I) (seat : ℕ) (f : SeatState → SeatState)
+    → position_from (is_seat seat) 0 s.seats ≡ None → s ≡ change_seat seat f s
+seat_kept s seat f found = λ k. record s { seats = sym (change_none (is_seat seat) f s.seats found) k }
 
-nobody : {I : Type 0} (m : Meaning I) (s : State I) (seat : Seat) (o : Option RequestState) (w : WorkerState I) → worker_for o s.workers ≡ Some w → w.waiters ≡ [] → s ≡ begun_by m s seat o
-nobody m s seat None w e none = refl
-nobody m s seat (Some r) w e none = rw (e, none) refl
+-- the Worker of a request was changed at its place
+pub worker_changed_in : {I : Type 0} (o : Option RequestState) (ws : List (WorkerState I)) (i : ℕ) (f : WorkerState I → WorkerState I) (w w' : WorkerState I)
+    → place_for o ws ≡ Some i → w ≡ get_or ws i w → w' ≡ f w → set ws i w' ≡ change_for o f ws
+worker_changed_in None ws i f w w' found read is = cc
+worker_changed_in (Some r) ws i f w w' found read is = changed_at (is_worker r.service) f ws i w w' found read is
 
--- nobody waits
-pub begun_nobody : {I : Type 0} (m : Meaning I) (s now : State I) (seat : Seat) (req : Req) (j : ℕ) (w : WorkerState I)
-    → s ≡ now → position_from (is_worker (service_at (request_of req.0 now.requests))) 0 now.workers ≡ Some j → w ≡ get_or s.workers j w → w.waiters ≡ []
-    → now ≡ begun m now seat req
-begun_nobody {I} m s now seat req j w is found read none =
-    let here : w ≡ get_or now.workers j w = read ∙ ap (λ (t : State I). get_or t.workers j w) is in
-    nobody m now seat (request_of req.0 now.requests) w (find_at _ now.workers j w found ∙ ap Some (sym here)) none
+-- the same in the state
+pub worker_changed : {I : Type 0} (s : State I) (req i : ℕ) (f : WorkerState I → WorkerState I) (w w' : WorkerState I)
+    → place_for (request_of req s.requests) s.workers ≡ Some i → w ≡ get_or s.workers i w → w' ≡ f w
+    → record s { workers = set s.workers i w' } ≡ change_worker req f s
+worker_changed s req i f w w' found read is = λ k. record s { workers = worker_changed_in (request_of req s.requests) s.workers i f w w' found read is k }
+
+worker_kept_in : {I : Type 0} (o : Option RequestState) (ws : List (WorkerState I)) (f : WorkerState I → WorkerState I)
+    → place_for o ws ≡ None → ws ≡ change_for o f ws
+worker_kept_in None ws f found = refl
+worker_kept_in (Some r) ws f found = sym (change_none (is_worker r.service) f ws found)
+
+-- the request has no Worker
+pub worker_kept : {I : Type 0} (s : State I) (req : ℕ) (f : WorkerState I → WorkerState I)
+    → place_for (request_of req s.requests) s.workers ≡ None → s ≡ change_worker req f s
+worker_kept s req f found = λ k. record s { workers = worker_kept_in (request_of req s.requests) s.workers f found k }
+
+-- what the seat that was found runs
+pub ran_at : {I : Type 0} (s now : State I) (seat i : ℕ) (t : SeatState)
+    → s ≡ now → position_from (is_seat seat) 0 now.seats ≡ Some i → t ≡ get_or s.seats i t → t.running ≡ running_in (seat_at seat now.seats)
+ran_at {I} s now seat i t same found read =
+    let at = subst (λ (u : State I). position_from (is_seat seat) 0 u.seats ≡ Some i) (sym same) found in
+    ap running_in (ap Some read ∙ sym (find_at (is_seat seat) s.seats i t at)) ∙ ap (λ (u : State I). running_in (seat_at seat u.seats)) same
+
+-- a seat that is not there runs nothing
+pub ran_none : {I : Type 0} (s : State I) (seat : ℕ) → position_from (is_seat seat) 0 s.seats ≡ None → None ≡ running_in (seat_at seat s.seats)
+ran_none s seat found = ap running_in (sym (find_none (is_seat seat) s.seats found))
+
+-- the same from the state that the program's tables make
+pub request_set : {I : Type 0} (s now : State I) (req i : ℕ) (f : RequestState → RequestState) (r r' : RequestState)
+    → s ≡ now → position_from (is_request req) 0 now.requests ≡ Some i → r ≡ get_or s.requests i r → r' ≡ f r
+    → record s { requests = set s.requests i r' } ≡ change_request req f now
+request_set {I} s now req i f r r' same found read is =
+    request_changed s req i f r r' (subst (λ (t : State I). position_from (is_request req) 0 t.requests ≡ Some i) (sym same) found) read is ∙ ap (change_request req f) same
+
+pub seat_set : {I : Type 0} (s now : State I) (seat i : ℕ) (f : SeatState → SeatState) (t t' : SeatState)
+    → s ≡ now → position_from (is_seat seat) 0 now.seats ≡ Some i → t ≡ get_or s.seats i t → t' ≡ f t
+    → record s { seats = set s.seats i t' } ≡ change_seat seat f now
+seat_set {I} s now seat i f t t' same found read is =
+    seat_changed s seat i f t t' (subst (λ (u : State I). position_from (is_seat seat) 0 u.seats ≡ Some i) (sym same) found) read is ∙ ap (change_seat seat f) same
+
+pub worker_set : {I : Type 0} (s now : State I) (req i : ℕ) (f : WorkerState I → WorkerState I) (w w' : WorkerState I)
+    → s ≡ now → place_for (request_of req now.requests) now.workers ≡ Some i → w ≡ get_or s.workers i w → w' ≡ f w
+    → record s { workers = set s.workers i w' } ≡ change_worker req f now
+worker_set {I} s now req i f w w' same found read is =
+    worker_changed s req i f w w' (subst (λ (t : State I). place_for (request_of req t.requests) t.workers ≡ Some i) (sym same) found) read is ∙ ap (change_worker req f) same
+
+-- the same where the change reads the state
+pub seat_set_by : {I : Type 0} (s now : State I) (seat i : ℕ) (f : State I → SeatState → SeatState) (t t' : SeatState)
+    → s ≡ now → position_from (is_seat seat) 0 now.seats ≡ Some i → t ≡ get_or s.seats i t → t' ≡ f s t
+    → record s { seats = set s.seats i t' } ≡ change_seat seat (f now) now
+seat_set_by {I} s now seat i f t t' same found read is =
+    seat_changed s seat i (f s) t t' (subst (λ (u : State I). position_from (is_seat seat) 0 u.seats ≡ Some i) (sym same) found) read is ∙ ap (λ (u : State I). change_seat seat (f u) u) same
+
+pub worker_set_by : {I : Type 0} (s now : State I) (req i : ℕ) (f : State I → WorkerState I → WorkerState I) (w w' : WorkerState I)
+    → s ≡ now → place_for (request_of req now.requests) now.workers ≡ Some i → w ≡ get_or s.workers i w → w' ≡ f s w
+    → record s { workers = set s.workers i w' } ≡ change_worker req (f now) now
+worker_set_by {I} s now req i f w w' same found read is =
+    worker_changed s req i (f s) w w' (subst (λ (t : State I). place_for (request_of req t.requests) t.workers ≡ Some i) (sym same) found) read is ∙ ap (λ (u : State I). change_worker req (f u) u) same
 
 -- a request that is found by a number has it
 pub found_number : (rows : List RequestState) (req : ℕ) (r : RequestState) → request_of req rows ≡ Some r → r.req.0 ≡ req
@@ -83,160 +126,68 @@ found_number (x ∷ rest) req r e =
       | false ↦ λ h e. found_number rest req r e
     ] refl e
 
--- the tables after the front waiter's turn
-made : {I : Type 0} (m : Meaning I) (s : State I) (seat : Seat) (req : Req) (r r' : RequestState) (w w' : WorkerState I) (i j : ℕ) (running : List Run)
+-- no such request, or it has no Worker
+begun_nowhere_in : {I : Type 0} (m : Meaning I) (s : State I) (seat : Seat) (o : Option RequestState) → place_for o s.workers ≡ None → s ≡ begun_by m seat o s
+begun_nowhere_in m s seat None found = refl
+begun_nowhere_in m s seat (Some r) found = ap (λ o. begun_in m seat r o s) (sym (find_none (is_worker r.service) s.workers found))
+
+pub begun_nowhere : {I : Type 0} (m : Meaning I) (s : State I) (seat : Seat) (req : Req) → place_for (request_of req.0 s.requests) s.workers ≡ None → s ≡ begun m seat req s
+begun_nowhere m s seat req found = begun_nowhere_in m s seat (request_of req.0 s.requests) found
+
+pub begun_absent : {I : Type 0} (m : Meaning I) (s : State I) (seat : Seat) (req : Req) → position_from (is_request req.0) 0 s.requests ≡ None → s ≡ begun m seat req s
+begun_absent m s seat req found = ap (λ o. begun_by m seat o s) (sym (find_none (is_request req.0) s.requests found))
+
+-- the tables after the front waiter's turn, if one waits
+begun_cases : {I : Type 0} (m : Meaning I) (s : State I) (seat : Seat) (req : Req) (r r' : RequestState) (w w' : WorkerState I) (i j : ℕ) (made : Option Pending)
     → position_from (is_request req.0) 0 s.requests ≡ Some i → position_from (is_worker r.service) 0 s.workers ≡ Some j
     → r ≡ get_or s.requests i r → w ≡ get_or s.workers j w → r.req.0 ≡ req.0
-    → running ≡ s.running ++ record { seat = seat; req = r.req } ∷ []
-    → (w.waiters ≡ [] → ⊥)
-    → (ws : List Waiter) → w.waiters ≡ ws → RunsFront m w r w' r' ws
-    → record s { workers = set s.workers j w'; requests = set s.requests i r'; running = running } ≡ begun m s seat req
-made m s seat req r r' w w' i j running at place read_row read_worker same ran some [] is h = absurd (some is)
-made {I} m s seat req r r' w w' i j running at place read_row read_worker same ran some (x ∷ rest) is h =
+    → (ws : List Waiter) → w.waiters ≡ ws → RunsFront m w r ws w' r' made
+    → ran seat.0 made (record s { workers = set s.workers j w'; requests = set s.requests i r' }) ≡ begun_front m seat r w ws s
+begun_cases {I} m s seat req r r' w w' i j made at place read_row read_worker number [] is h =
+    let rows : set s.requests i r' ≡ s.requests = ap (set s.requests i) (h.2 ∙ read_row) ∙ set-get_or s.requests i r in
+    let workers : set s.workers j w' ≡ s.workers = ap (set s.workers j) (h.1 ∙ read_worker) ∙ set-get_or s.workers j w in
+    ap (λ o. ran seat.0 o (record s { workers = set s.workers j w'; requests = set s.requests i r' })) h.0
+    ∙ (λ k. record s { workers = workers k; requests = rows k })
+begun_cases {I} m s seat req r r' w w' i j made at place read_row read_worker number (x ∷ rest) is h =
     let generation = turn_generation r w in
     let gives = m.turn w.isolate (turn_in generation r x.wake) in
-    let worker_new = ap (set s.workers j) (h.0 ∙ ap (taken_by r.req gives.isolate rest) read_worker) ∙ sym (change_at (is_worker r.service) (taken_by r.req gives.isolate rest) s.workers j w place) in
-    let row_new = ap (set s.requests i) (h.1 ∙ ap (runs_turn generation gives) read_row) ∙ sym (change_at (is_request req.0) (runs_turn generation gives) s.requests i r at) ∙ ap (λ q. change (is_request q) (runs_turn generation gives) s.requests) (sym same) in
+    let workers = changed_at (is_worker r.service) (taken_by r.req gives.isolate rest) s.workers j w w' place read_worker h.1 in
+    let rows = changed_at (is_request req.0) (starts_turn generation) s.requests i r r' at read_row h.2 ∙ ap (λ q. change (is_request q) (starts_turn generation) s.requests) (sym number) in
+    ap (λ o. ran seat.0 o (record s { workers = set s.workers j w'; requests = set s.requests i r' })) h.0
+    ∙ (λ k. record s { workers = workers k; requests = rows k; seats = change (is_seat seat.0) (runs (pending_of r.req (is_dead_turn generation w x.wake) gives)) s.seats })
+
+-- Begin where the request and its Worker were found
+pub begun_found : {I : Type 0} (m : Meaning I) (s now : State I) (seat : Seat) (req : Req) (r r' : RequestState) (w w' : WorkerState I) (i j : ℕ) (made : Option Pending)
+    → s ≡ now → position_from (is_request req.0) 0 now.requests ≡ Some i → place_for (request_of req.0 now.requests) now.workers ≡ Some j
+    → r ≡ get_or s.requests i r → w ≡ get_or s.workers j w → RunsFront m w r w.waiters w' r' made
+    → ran seat.0 made (record s { workers = set s.workers j w'; requests = set s.requests i r' }) ≡ begun m seat req now
+begun_found {I} m s now seat req r r' w w' i j made same at_now place_now read_row read_worker h =
+    let at = subst (λ (t : State I). position_from (is_request req.0) 0 t.requests ≡ Some i) (sym same) at_now in
     let row : request_of req.0 s.requests ≡ Some r = find_at (is_request req.0) s.requests i r at ∙ ap Some (sym read_row) in
+    let found = subst (λ (t : State I). place_for (request_of req.0 t.requests) t.workers ≡ Some j) (sym same) place_now in
+    let place : position_from (is_worker r.service) 0 s.workers ≡ Some j = subst (λ o. place_for o s.workers ≡ Some j) row found in
     let worker : worker_of r.service s.workers ≡ Some w = find_at (is_worker r.service) s.workers j w place ∙ ap Some (sym read_worker) in
-    let tables : record s { workers = set s.workers j w'; requests = set s.requests i r'; running = running } ≡ begun_with s seat r generation gives rest = λ k. record s { workers = worker_new k; requests = row_new k; running = ran k } in
-    let steps : begun m s seat req ≡ begun_with s seat r generation gives rest = ap (begun_by m s seat) row ∙ ap (begun_in m s seat r) worker ∙ ap (begun_front m s seat r w) is in
-    tables ∙ sym steps
+    let steps : begun m seat req s ≡ begun_front m seat r w w.waiters s = ap (λ o. begun_by m seat o s) row ∙ ap (λ o. begun_in m seat r o s) worker in
+    begun_cases m s seat req r r' w w' i j made at place read_row read_worker (found_number s.requests req.0 r row) w.waiters refl h
+    ∙ sym steps ∙ ap (begun m seat req) same
 
--- the front waiter's turn was made
-pub begun_done : {I : Type 0} (m : Meaning I) (s now : State I) (seat : Seat) (req : Req) (r r2 r' : RequestState) (w w2 w' : WorkerState I) (i j : ℕ) (running : List Run)
-    → s ≡ now → position_from (is_request req.0) 0 now.requests ≡ Some i → position_from (is_worker (service_at (request_of req.0 now.requests))) 0 now.workers ≡ Some j
-    → r ≡ get_or s.requests i r → r2 ≡ get_or s.requests i r2 → w ≡ get_or s.workers j w → w2 ≡ get_or s.workers j w2
-    → running ≡ s.running ++ record { seat = seat; req = r2.req } ∷ []
-    → (w2.waiters ≡ [] → ⊥)
-    → RunsFront m w r w' r' w.waiters
-    → record s { workers = set s.workers j w'; requests = set s.requests i r'; running = running } ≡ begun m now seat req
-begun_done {I} m s now seat req r r2 r' w w2 w' i j running is at_now place_now read_row read_row2 read_worker read_worker2 ran some h =
-    let at = subst (λ (t : State I). position_from (is_request req.0) 0 t.requests ≡ Some i) (sym is) at_now in
-    let found : request_of req.0 s.requests ≡ Some r = find_at (is_request req.0) s.requests i r at ∙ ap Some (sym read_row) in
-    let place_of = subst (λ (t : State I). position_from (is_worker (service_at (request_of req.0 t.requests))) 0 t.workers ≡ Some j) (sym is) place_now in
-    let place : position_from (is_worker r.service) 0 s.workers ≡ Some j = subst (λ o. position_from (is_worker (service_at o)) 0 s.workers ≡ Some j) found place_of in
-    let rows : r2 ≡ r = read_row2 ∙ same_read (is_request req.0) s.requests i r2 r at ∙ sym read_row in
-    let workers : w2 ≡ w = read_worker2 ∙ same_read (is_worker r.service) s.workers j w2 w place ∙ sym read_worker in
-    let number : r.req.0 ≡ req.0 = found_number s.requests req.0 r found in
-    let ran_now : running ≡ s.running ++ record { seat = seat; req = r.req } ∷ [] = ran ∙ ap (λ (t : RequestState). s.running ++ record { seat = seat; req = t.req } ∷ []) rows in
-    let some_now : w.waiters ≡ [] → ⊥ = λ none. some (ap (λ (t : WorkerState I). t.waiters) workers ∙ none) in
-    made m s seat req r r' w w' i j running at place read_row read_worker number ran_now some_now w.waiters refl h ∙ ap (λ (t : State I). begun m t seat req) is
+-- a seat that is not there frees nothing
+pub drained_absent : {I : Type 0} (s : State I) (seat : Seat) → position_from (is_seat seat.0) 0 s.seats ≡ None → s ≡ drained seat s
+drained_absent s seat found =
+    λ k. record s { requests = ap (λ o. fold freed_by s.requests (due_in o)) (sym (find_none (is_seat seat.0) s.seats found)) k; seats = sym (change_none (is_seat seat.0) has_drained s.seats found) k }
 
--- no such request
-pub turned_absent : {I : Type 0} (s : State I) (seat : Seat) (req : Req) → position_from (is_request req.0) 0 s.requests ≡ None → s ≡ turned s seat req
-turned_absent s seat req e = rw (find_none (is_request req.0) s.requests e) refl
+-- the seat that was found has freed what was due
+pub drained_set : {I : Type 0} (s now : State I) (seat : Seat) (i : ℕ) (t t' : SeatState) (rows : List RequestState)
+    → s ≡ now → position_from (is_seat seat.0) 0 now.seats ≡ Some i → t ≡ get_or s.seats i t → t' ≡ has_drained t → rows ≡ fold freed_by s.requests t.due
+    → record s { requests = rows; seats = set s.seats i t' } ≡ drained seat now
+drained_set {I} s now seat i t t' rows same found read is freed =
+    let at = subst (λ (u : State I). position_from (is_seat seat.0) 0 u.seats ≡ Some i) (sym same) found in
+    let row : Some t ≡ seat_at seat.0 s.seats = ap Some read ∙ sym (find_at (is_seat seat.0) s.seats i t at) in
+    let left = freed ∙ ap (λ o. fold freed_by s.requests (due_in o)) row in
+    let seats = changed_at (is_seat seat.0) has_drained s.seats i t t' at read is in
+    (λ k. record s { requests = left k; seats = seats k }) ∙ ap (drained seat) same
 
--- no such request, so that no turn of it is pending
-pub turn_out_absent : {I : Type 0} (s : State I) (req : Req) → position_from (is_request req.0) 0 s.requests ≡ None → None ≡ turn_out (request_of req.0 s.requests) (worker_for (request_of req.0 s.requests) s.workers)
-turn_out_absent s req e = rw (find_none (is_request req.0) s.requests e) refl
-
--- the row had no pending turn
-idle_row : (r r' : RequestState) (waiting : Bool) (o : Option Pending) → TurnsRow r r' waiting o None → (o ≡ None) × (r' ≡ r)
-idle_row r r' waiting None h = (refl, h.1)
-idle_row r r' waiting (Some p) h = cc
-
--- what the row's pending turn was
-done_row : (r r' : RequestState) (waiting : Bool) (done : Done) (o : Option Pending) → TurnsRow r r' waiting o (Some done) → (p : Pending) × (o ≡ Some p) × (done ≡ done_by r waiting p.out) × (r' ≡ has_turned waiting p r)
-done_row r r' waiting done None h = cc
-done_row r r' waiting done (Some p) h = (p, refl, cc, h.1)
-
--- no turn of the request is pending
-pub turned_idle : {I : Type 0} (s now : State I) (seat : Seat) (req : Req) (r r' : RequestState) (waiting : Bool) (i : ℕ)
-    → s ≡ now → position_from (is_request req.0) 0 now.requests ≡ Some i → r ≡ get_or s.requests i r → TurnsRow r r' waiting r.pending None
-    → record s { requests = set s.requests i r' } ≡ turned now seat req
-turned_idle {I} s now seat req r r' waiting i is at_now read h =
-    let at = subst (λ (t : State I). position_from (is_request req.0) 0 t.requests ≡ Some i) (sym is) at_now in
-    let found : request_of req.0 s.requests ≡ Some r = find_at (is_request req.0) s.requests i r at ∙ ap Some (sym read) in
-    let row = idle_row r r' waiting r.pending h in
-    let same : set s.requests i r' ≡ s.requests = ap (set s.requests i) (row.1 ∙ read) ∙ set-get_or s.requests i r in
-    let nothing : s ≡ turned s seat req = sym (ap (turned_by s seat) found ∙ ap (turned_in s seat r) row.0) in
-    (λ k. record s { requests = same k }) ∙ nothing ∙ ap (λ (t : State I). turned t seat req) is
-
-pub turn_out_idle : {I : Type 0} (s now : State I) (req : Req) (r r' : RequestState) (waiting : Bool) (i : ℕ)
-    → s ≡ now → position_from (is_request req.0) 0 now.requests ≡ Some i → r ≡ get_or s.requests i r → TurnsRow r r' waiting r.pending None
-    → None ≡ turn_out (request_of req.0 now.requests) (worker_for (request_of req.0 now.requests) now.workers)
-turn_out_idle {I} s now req r r' waiting i is at_now read h =
-    let at = subst (λ (t : State I). position_from (is_request req.0) 0 t.requests ≡ Some i) (sym is) at_now in
-    let found : request_of req.0 s.requests ≡ Some r = find_at (is_request req.0) s.requests i r at ∙ ap Some (sym read) in
-    let row = idle_row r r' waiting r.pending h in
-    let nothing : None ≡ turn_out (request_of req.0 s.requests) (worker_for (request_of req.0 s.requests) s.workers) = sym (ap (λ o. turn_out o (worker_for o s.workers)) found ∙ ap (entry_out r (waits_in r.req.0 (waiters_at (worker_of r.service s.workers)))) row.0) in
-    nothing ∙ ap (λ (t : State I). turn_out (request_of req.0 t.requests) (worker_for (request_of req.0 t.requests) t.workers)) is
-
--- what a turn that was pending leaves of the tables
-pub record LeavesTables {I : Type 0} (s : State I) (seat : Seat) (req : Req) (done : Done) (running : List Run) (made freed : List ObjName) : Type 0 where
-  pub ran : running ≡ filter (λ x. not (x.seat.0 == seat.0)) s.running
-  pub makes : made ≡ s.made ++ map (named req) done.out.made
-  pub frees : freed ≡ s.freed ++ map (named req) done.freed
-
-turned_tables : {I : Type 0} (s : State I) (seat : Seat) (req : Req) (r r' : RequestState) (p : Pending) (done : Done) (waiting : Bool) (i : ℕ) (workers : List (WorkerState I)) (running : List Run) (made freed : List ObjName)
-    → position_from (is_request req.0) 0 s.requests ≡ Some i → r ≡ get_or s.requests i r → r.req ≡ req → r.pending ≡ Some p
-    → waiting ≡ waits_in r.req.0 (waiters_at (worker_of r.service s.workers))
-    → done ≡ done_by r waiting p.out → r' ≡ has_turned waiting p r
-    → workers ≡ change (is_worker r.service) (given_back done.ended req.0) s.workers
-    → LeavesTables s seat req done running made freed
-    → record s { workers = workers; requests = set s.requests i r'; running = running; made = made; freed = freed } ≡ turned s seat req
-turned_tables {I} s seat req r r' p done waiting i workers running made freed at read same pending waits did row back leaves =
-    let found : request_of req.0 s.requests ≡ Some r = find_at (is_request req.0) s.requests i r at ∙ ap Some (sym read) in
-    let back_now = back ∙ ap (λ (d : Done). change (is_worker r.service) (given_back d.ended req.0) s.workers) did ∙ ap (λ (q : Req). change (is_worker r.service) (given_back (ends r waiting p.out) q.0) s.workers) (sym same) in
-    let rows = ap (set s.requests i) (row ∙ ap (has_turned waiting p) read) ∙ sym (change_at (is_request req.0) (has_turned waiting p) s.requests i r at) ∙ ap (λ (q : Req). change (is_request q.0) (has_turned waiting p) s.requests) (sym same) in
-    let makes = leaves.makes ∙ ap (λ (d : Done). s.made ++ map (named req) d.out.made) did ∙ ap (λ (q : Req). s.made ++ map (named q) p.out.made) (sym same) in
-    let frees = leaves.frees ∙ ap (λ (d : Done). s.freed ++ map (named req) d.freed) did ∙ ap (λ (q : Req). s.freed ++ map (named q) (freed_by r waiting p.out)) (sym same) in
-    let tables : record s { workers = workers; requests = set s.requests i r'; running = running; made = made; freed = freed } ≡ turned_with s seat r waiting p = λ k. record s { workers = back_now k; requests = rows k; running = leaves.ran k; made = makes k; freed = frees k } in
-    let steps : turned_with s seat r (waits_in r.req.0 (waiters_at (worker_of r.service s.workers))) p ≡ turned s seat req = sym (ap (turned_by s seat) found ∙ ap (turned_in s seat r) pending) in
-    tables ∙ ap (λ b. turned_with s seat r b p) waits ∙ steps
-
--- the facts of a turn that was pending
-pub record Turned {I : Type 0} (s now : State I) (seat : Seat) (req : Req) (r r' : RequestState) (done : Done) (waiting : Bool) (i : ℕ) : Type 0 where
-  pub is : s ≡ now
-  pub at : position_from (is_request req.0) 0 now.requests ≡ Some i
-  pub read : r ≡ get_or s.requests i r
-  pub waits : waiting ≡ waits_in req.0 (waiters_at (worker_for (request_of req.0 now.requests) now.workers))
-  pub row : TurnsRow r r' waiting r.pending (Some done)
-
-module _ {I : Type 0} (s now : State I) (seat : Seat) (req : Req) (r r' : RequestState) (done : Done) (waiting : Bool) (i : ℕ) (facts : Turned s now seat req r r' done waiting i) where
-  at_old : position_from (is_request req.0) 0 s.requests ≡ Some i
-  at_old = subst (λ (t : State I). position_from (is_request req.0) 0 t.requests ≡ Some i) (sym facts.is) facts.at
-
-  found_old : request_of req.0 s.requests ≡ Some r
-  found_old = find_at (is_request req.0) s.requests i r at_old ∙ ap Some (sym facts.read)
-
-  same_number : r.req ≡ req
-  same_number = λ k. record { 0 = found_number s.requests req.0 r found_old k }
-
-  waits_old : waiting ≡ waits_in r.req.0 (waiters_at (worker_of r.service s.workers))
-  waits_old =
-      facts.waits ∙ ap (λ (t : State I). waits_in req.0 (waiters_at (worker_for (request_of req.0 t.requests) t.workers))) (sym facts.is)
-      ∙ ap (λ o. waits_in req.0 (waiters_at (worker_for o s.workers))) found_old
-      ∙ ap (λ (q : Req). waits_in q.0 (waiters_at (worker_of r.service s.workers))) (sym same_number)
-
-  -- the `Out` of the turn's entry
-  pub turn_out_done : Some done.out ≡ turn_out (request_of req.0 now.requests) (worker_for (request_of req.0 now.requests) now.workers)
-  turn_out_done =
-      let row = done_row r r' waiting done r.pending facts.row in
-      let here : turn_out (request_of req.0 s.requests) (worker_for (request_of req.0 s.requests) s.workers) ≡ Some (whole_out r (waits_in r.req.0 (waiters_at (worker_of r.service s.workers))) row.0.out) = ap (λ o. turn_out o (worker_for o s.workers)) found_old ∙ ap (entry_out r (waits_in r.req.0 (waiters_at (worker_of r.service s.workers)))) row.1 in
-      ap (λ (d : Done). Some d.out) row.2 ∙ ap (λ b. Some (whole_out r b row.0.out)) waits_old ∙ sym here
-      ∙ ap (λ (t : State I). turn_out (request_of req.0 t.requests) (worker_for (request_of req.0 t.requests) t.workers)) facts.is
-
-  module _ (running : List Run) (made freed : List ObjName) (leaves : LeavesTables s seat req done running made freed) where
-    -- the request's Worker is not there
-    pub turned_alone : position_from (is_worker (service_at (request_of req.0 now.requests))) 0 now.workers ≡ None
-        → record s { requests = set s.requests i r'; running = running; made = made; freed = freed } ≡ turned now seat req
-    turned_alone place_now =
-        let row = done_row r r' waiting done r.pending facts.row in
-        let place_of = subst (λ (t : State I). position_from (is_worker (service_at (request_of req.0 t.requests))) 0 t.workers ≡ None) (sym facts.is) place_now in
-        let place : position_from (is_worker r.service) 0 s.workers ≡ None = subst (λ o. position_from (is_worker (service_at o)) 0 s.workers ≡ None) found_old place_of in
-        turned_tables s seat req r r' row.0 done waiting i s.workers running made freed at_old facts.read same_number row.1 waits_old row.2 row.3 (sym (change_none (is_worker r.service) (given_back done.ended req.0) s.workers place)) leaves
-        ∙ ap (λ (t : State I). turned t seat req) facts.is
-
-    -- the request's Worker gets its isolate back
-    pub turned_given : (j : ℕ) (w w' : WorkerState I) → position_from (is_worker (service_at (request_of req.0 now.requests))) 0 now.workers ≡ Some j
-        → w ≡ get_or s.workers j w → w' ≡ given_back done.ended req.0 w
-        → record s { workers = set s.workers j w'; requests = set s.requests i r'; running = running; made = made; freed = freed } ≡ turned now seat req
-    turned_given j w w' place_now read_worker back =
-        let row = done_row r r' waiting done r.pending facts.row in
-        let place_of = subst (λ (t : State I). position_from (is_worker (service_at (request_of req.0 t.requests))) 0 t.workers ≡ Some j) (sym facts.is) place_now in
-        let place : position_from (is_worker r.service) 0 s.workers ≡ Some j = subst (λ o. position_from (is_worker (service_at o)) 0 s.workers ≡ Some j) found_old place_of in
-        let workers = ap (set s.workers j) (back ∙ ap (given_back done.ended req.0) read_worker) ∙ sym (change_at (is_worker r.service) (given_back done.ended req.0) s.workers j w place) in
-        turned_tables s seat req r r' row.0 done waiting i (set s.workers j w') running made freed at_old facts.read same_number row.1 waits_old row.2 row.3 workers leaves
-        ∙ ap (λ (t : State I). turned t seat req) facts.is
+-- the seat owes the duty of the request's reply
+pub owed_answer : {I : Type 0} (s now : State I) (seat req : ℕ) (reply : Option Reply) (d : Option Duty)
+    → s ≡ now → d ≡ answer_of s.requests (request_of req s.requests) reply → owing seat d now ≡ owing_answer seat req reply now
+owed_answer {I} s now seat req reply d same is = ap (λ d. owing seat d now) (is ∙ ap (λ (u : State I). answer_of u.requests (request_of req u.requests) reply) same)

@@ -1,13 +1,15 @@
 -- When a turn ends its request, and the reply that a request gets that can have no other.
-use Rattle.std.specs.Prelude.{ℕ, ◌==◌, Bool, not, ◌&&◌, ◌||◌, if◌then◌else◌, List, [], ◌∷◌, ◌++◌, length, filter, Option, Some, codes, is_some}
+use Rattle.std.specs.Prelude.{ℕ, ◌==◌, Bool, true, false, not, ◌&&◌, ◌||◌, List, [], ◌∷◌, length, filter, Option}
+use Rattle.std.specs.Prelude.{Some, None, codes, is_some}
 use Rattle.std.specs.List.{list_any}
 use Rattle.wd_base.specs.declared.http.Reply.{Reply}
 use Rattle.wd_base.specs.declared.http.Why.{Why}
-use Rattle.wd_base.specs.declared.http.Why.TheVariants.{Hung}
+use Rattle.wd_base.specs.declared.http.Why.TheVariants.{Hung, Dead}
 use Rattle.wd_base.specs.declared.ids.Obj.{Obj}
+use Rattle.wd_base.specs.declared.objects.IoObject.{IoObject}
+use Rattle.wd_machine.specs.declared.state.Pending.{Pending}
 use Rattle.wd_machine.specs.declared.state.RequestState.{RequestState}
 use Rattle.wd_machine.specs.declared.state.Waiter.{Waiter}
-use Rattle.wd_machine.specs.declared.turn.Out.{Out}
 use Rattle.wd_machine.specs.Meaning.{has_obj}
 
 -- the name of the field
@@ -26,42 +28,70 @@ internal_server_error = codes "Internal Server Error"
 abbrev pub failure : Why → Reply
 failure why = record { status = 500; fields = (content_type, plain_text) ∷ []; body = internal_server_error; why = why }
 
+-- the waiter is of this request
+abbrev pub is_waiter : ℕ → Waiter → Bool
+is_waiter req w = w.req.0 == req
+
 -- the request waits for a turn
 abbrev pub waits_in : ℕ → List Waiter → Bool
-waits_in req waiters = list_any (λ w. w.req.0 == req) waiters
+waits_in req waiters = list_any (is_waiter req) waiters
 
 -- the request has replied, or its caller is gone
-abbrev pub is_settled : RequestState → Out → Bool
-is_settled r out = r.replied || (is_some out.reply || r.detached)
+abbrev pub is_settled : RequestState → Pending → Bool
+is_settled r p = r.replied || (is_some p.out.reply || r.detached)
 
 -- nothing is left that could go on with the request: no operation in flight, and it does not wait for a turn
-abbrev pub is_idle : RequestState → Bool → Out → Bool
-is_idle r waiting out = (length r.flights == 0) && ((length out.ops == 0) && not waiting)
+abbrev pub is_idle : RequestState → Bool → Pending → Bool
+is_idle r waiting p = (length r.flights == 0) && ((length p.out.ops == 0) && not waiting)
 
--- the turn ends its request: it was condemned, the request is settled and waits for no promise, or nothing is left of it
-abbrev pub ends : RequestState → Bool → Out → Bool
-ends r waiting out = out.condemned || (((out.waits == 0) && is_settled r out) || is_idle r waiting out)
+-- the turn ends its request: it was dead or condemned, the request is settled and waits for no promise, or nothing is
+-- left of it
+abbrev pub ends : RequestState → Bool → Pending → Bool
+ends r waiting p = p.dead || (p.out.condemned || (((p.out.waits == 0) && is_settled r p) || is_idle r waiting p))
 
--- nothing is left of the request, and it has no reply
-abbrev pub is_hung : RequestState → Bool → Out → Bool
-is_hung r waiting out = is_idle r waiting out && not (is_settled r out)
+-- why a request gets a reply that its script did not give: settled, it gets none; its generation is over; nothing is
+-- left of it
+abbrev pub lost_why : Bool → Bool → Bool → Option Why
+lost_why true dead idle = None
+lost_why false true idle = Some Dead
+lost_why false false true = Some Hung
+lost_why false false false = None
 
--- the reply that stands in the entry: the turn's, or that of a hung request
-abbrev pub whole_reply : RequestState → Bool → Out → Option Reply
-whole_reply r waiting out = if is_hung r waiting out then Some (failure Hung) else out.reply
+-- the reply, and where there is a reason for another, that one
+abbrev pub or_failure : Option Why → Option Reply → Option Reply
+or_failure None reply = reply
+or_failure (Some why) reply = Some (failure why)
 
--- the `Out` that stands in the entry
-abbrev pub whole_out : RequestState → Bool → Out → Out
-whole_out r waiting out = record out { reply = whole_reply r waiting out }
+-- the reply that stands in the entry: the turn's, or that of a request whose generation is over or of which nothing is
+-- left
+abbrev pub whole_reply : RequestState → Bool → Pending → Option Reply
+whole_reply r waiting p = or_failure (lost_why (is_settled r p) p.dead (is_idle r waiting p)) p.out.reply
+
+-- the request takes no reply any more: it has one, or its caller is gone
+abbrev pub is_deaf : RequestState → Bool
+is_deaf r = r.replied || r.detached
+
+-- the reply, where it still counts
+abbrev pub unless_deaf : Bool → Option Reply → Option Reply
+unless_deaf true reply = None
+unless_deaf false reply = reply
+
+-- the reply that the request gets: the first one, while its caller is there
+abbrev pub given_reply : RequestState → Option Reply → Option Reply
+given_reply r reply = unless_deaf (is_deaf r) reply
+
+-- the object is not among those that were freed
+abbrev pub is_kept : List Obj → Obj → Bool
+is_kept freed o = not (has_obj freed o.0)
 
 -- the objects that are not among those that were freed
 abbrev pub without : List Obj → List Obj → List Obj
-without freed objs = filter (λ o. not (has_obj freed o.0)) objs
+without freed objs = filter (is_kept freed) objs
 
--- the objects that are left when the turn has freed its own
-abbrev pub left_live : RequestState → Out → List Obj
-left_live r out = without out.freed (r.live ++ out.made)
+-- the same of objects with what they hold
+abbrev pub is_kept_object : List Obj → IoObject → Bool
+is_kept_object freed o = not (has_obj freed o.obj.0)
 
--- what a turn frees: what its `Out` says, and at the request's end every object that is left
-abbrev pub freed_by : RequestState → Bool → Out → List Obj
-freed_by r waiting out = out.freed ++ (if ends r waiting out then left_live r out else [])
+-- the objects of a request that are left when these are freed
+abbrev pub kept_objects : List Obj → List IoObject → List IoObject
+kept_objects freed objects = filter (is_kept_object freed) objects

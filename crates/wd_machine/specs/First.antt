@@ -1,16 +1,19 @@
 -- The state before any entry.
-use Rattle.std.specs.Prelude.{◌≡◌, ℕ, List, [], ◌∷◌, map, Option, Some, None}
+use Rattle.std.specs.Prelude.{◌≡◌, ℕ, false, List, [], ◌∷◌, map, Option, Some, None}
+use Rattle.std.specs.List.{range_with_len}
 use Rattle.wd_base.specs.declared.config.Config.{Config}
 use Rattle.wd_base.specs.declared.config.Service.{Service}
 use Rattle.wd_base.specs.declared.config.WorkerDef.{WorkerDef}
 use Rattle.wd_graph.specs.Names.{worker_in, workers_of}
+use Rattle.wd_machine.specs.declared.state.SeatState.{SeatState}
 use Rattle.wd_machine.specs.declared.state.State.{State}
 use Rattle.wd_machine.specs.declared.state.WorkerState.{WorkerState}
 use Rattle.wd_machine.specs.Meaning.{Meaning}
 
 -- a Worker before any entry
 abbrev pub idle_worker : {I : Type 0} → List ℕ → I → WorkerState I
-idle_worker name isolate = record { name = name; isolate = isolate; generation = 0; holder = None; waiters = [] }
+idle_worker name isolate =
+    record { name = name; isolate = isolate; generation = 0; heavy = false; holder = None; waiters = [] }
 
 -- the first isolate of a Worker of the world, if its script does not fail
 abbrev pub first_isolate : {I : Type 0} → Meaning I → List Service → WorkerDef → Option I
@@ -53,6 +56,14 @@ workers_among m world (s ∷ rest) = add (first_worker m world s.name (worker_in
 abbrev pub first_workers : {I : Type 0} → Meaning I → List Service → List (WorkerState I)
 first_workers m world = workers_among m world world
 
+-- a seat before any entry
+abbrev pub idle_seat : ℕ → SeatState
+idle_seat seat = record { seat = record { 0 = seat }; running = None; due = []; duties = [] }
+
+-- the 64 seats before any entry
+abbrev pub first_seats : List SeatState
+first_seats = map idle_seat (range_with_len 0 64)
+
 -- the state before any entry
 abbrev pub first_state : {I : Type 0} → Meaning I → Config → State I
-first_state m world = record { workers = first_workers m world.services; requests = []; running = []; due = []; made = []; freed = [] }
+first_state m world = record { workers = first_workers m world.services; requests = []; seats = first_seats }

@@ -1,12 +1,13 @@
--- What is found in the state: requests by number, Workers by name, and what a seat runs and has to free.
-use Rattle.std.specs.Prelude.{ℕ, ◌==◌, ◌≡◌, Bool, List, [], ◌∷◌, filter, Option, Some, None, option_map}
-use Rattle.std.specs.List.{find, position_from}
+-- What is found in the state: requests and seats by number, and Workers by name.
+use Rattle.std.specs.Prelude.{ℕ, ◌==◌, Bool, false, not, ◌&&◌, List, [], ◌∷◌, Option, Some, None, option_map}
+use Rattle.std.specs.List.{find}
 use Rattle.wd_base.specs.declared.ids.Req.{Req}
+use Rattle.wd_base.specs.declared.objects.ObjName.{ObjName}
 use Rattle.wd_graph.specs.Names.{same_name}
-use Rattle.wd_machine.specs.declared.find.Places.{Places}
-use Rattle.wd_machine.specs.declared.state.Due.{Due}
+use Rattle.wd_machine.specs.declared.state.Duty.{Duty}
+use Rattle.wd_machine.specs.declared.state.Pending.{Pending}
 use Rattle.wd_machine.specs.declared.state.RequestState.{RequestState}
-use Rattle.wd_machine.specs.declared.state.Run.{Run}
+use Rattle.wd_machine.specs.declared.state.SeatState.{SeatState}
 use Rattle.wd_machine.specs.declared.state.Waiter.{Waiter}
 use Rattle.wd_machine.specs.declared.state.WorkerState.{WorkerState}
 
@@ -26,14 +27,10 @@ is_worker name w = same_name w.name name
 abbrev pub worker_of : {I : Type 0} → List ℕ → List (WorkerState I) → Option (WorkerState I)
 worker_of name workers = find (is_worker name) workers
 
--- the service that a request arrived at
-abbrev pub service_at : Option RequestState → List ℕ
-service_at None = []
-service_at (Some r) = r.service
-
 -- the Worker that a request arrived at
 abbrev pub worker_for : {I : Type 0} → Option RequestState → List (WorkerState I) → Option (WorkerState I)
-worker_for row workers = worker_of (service_at row) workers
+worker_for None workers = None
+worker_for (Some r) workers = worker_of r.service workers
 
 -- what waits for a Worker
 abbrev pub waiters_at : {I : Type 0} → Option (WorkerState I) → List Waiter
@@ -54,19 +51,38 @@ abbrev pub holder_of : {I : Type 0} → Option (WorkerState I) → Option Req
 holder_of None = None
 holder_of (Some w) = w.holder
 
--- the seat is this one
-abbrev pub runs_on : ℕ → Run → Bool
-runs_on seat x = x.seat.0 == seat
+-- the seat has this number
+abbrev pub is_seat : ℕ → SeatState → Bool
+is_seat seat t = t.seat.0 == seat
 
--- the request whose turn a seat runs
-abbrev pub run_on : ℕ → List Run → Option Req
-run_on seat running = option_map (λ x. x.req) (find (runs_on seat) running)
+-- the seat of this number
+abbrev pub seat_at : ℕ → List SeatState → Option SeatState
+seat_at seat seats = find (is_seat seat) seats
+
+-- the turn that a seat runs
+abbrev pub running_in : Option SeatState → Option Pending
+running_in None = None
+running_in (Some t) = t.running
 
 -- what a seat has to free
-abbrev pub due_on : ℕ → List Due → List Due
-due_on seat due = filter (λ d. d.seat.0 == seat) due
+abbrev pub due_in : Option SeatState → List ObjName
+due_in None = []
+due_in (Some t) = t.due
 
--- the places where a request and its Worker are found
-pub record ArePlaces {I : Type 0} (workers : List (WorkerState I)) (rows : List RequestState) (places : Places) : Type 0 where
-  pub row : position_from (is_request places.req.0) 0 rows ≡ places.row
-  pub worker : position_from (is_worker (service_at (request_of places.req.0 rows))) 0 workers ≡ places.worker
+-- what a seat owes
+abbrev pub duties_in : Option SeatState → List Duty
+duties_in None = []
+duties_in (Some t) = t.duties
+
+-- the request of a turn that runs
+abbrev pub run_of : Option Pending → Option Req
+run_of p = option_map (λ x. x.req) p
+
+-- the request whose turn a seat runs
+abbrev pub run_on : ℕ → List SeatState → Option Req
+run_on seat seats = run_of (running_in (seat_at seat seats))
+
+-- the request is there, has not ended, and is of the seat
+abbrev pub is_live_on : ℕ → Option RequestState → Bool
+is_live_on seat None = false
+is_live_on seat (Some r) = not r.ended && (r.seat.0 == seat)

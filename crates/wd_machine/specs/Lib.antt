@@ -1,11 +1,14 @@
 pub mod Meaning
 pub mod Keyed
 pub mod Found
+pub mod Places
 pub mod Same
 pub mod Ends
 pub mod Entries
+pub mod Duties
 pub mod Rules
 pub mod Steps
 pub mod First
 pub mod Runs
+pub mod History
 pub mod Quiet

@@ -1,5 +1,6 @@
 -- What an isolate means, and the laws that every isolate keeps.
-use Rattle.std.specs.Prelude.{◌≡◌, ◌≢◌, ℕ, zero, suc, ◌+◌, ◌<◌, ◌≤◌, ◌==◌, nat_lt, Bool, true, false, ◌&&◌, ◌||◌, if◌then◌else◌, List, [], ◌∷◌, ◌++◌, map, length, Option, Some, None, Result, Ok, Err}
+use Rattle.std.specs.Prelude.{◌≡◌, ◌≢◌, ℕ, zero, suc, ◌+◌, ◌<◌, ◌≤◌, ◌==◌, nat_lt, Bool, true, false, ◌&&◌, ◌||◌}
+use Rattle.std.specs.Prelude.{if◌then◌else◌, List, [], ◌∷◌, ◌++◌, map, length, Option, Some, None, Result, Ok, Err}
 use Rattle.std.specs.List.{list_any, list_all}
 use Rattle.wd_base.specs.declared.config.WorkerDef.{WorkerDef}
 use Rattle.wd_base.specs.declared.ids.LinkNo.{LinkNo}
@@ -21,6 +22,11 @@ pub record TurnIn : Type 0 where
   pub left : ℕ
   pub wake : Wake
   pub objects : List IoObject
+
+-- the same from its parts
+abbrev pub given : ℕ → Req → ℕ → Wake → List IoObject → TurnIn
+given generation req left wake objects =
+    record { generation = generation; req = req; left = left; wake = wake; objects = objects }
 
 -- what a turn leaves: the isolate, the objects, and what it did
 pub record TurnGives (S : Type 0) : Type 0 where
@@ -59,7 +65,8 @@ is_dead_wake Dead = true
 abbrev pub is_dead : {S : Type 0} → Meaning S → S → TurnIn → Bool
 is_dead m s t = is_past m s t.generation || is_dead_wake t.wake
 
--- the handles in the heap that a turn of a generation starts from; above the isolate's own it is the first heap, which holds none
+-- the handles in the heap that a turn of a generation starts from; above the isolate's own it is the first heap, which
+-- holds none
 abbrev pub held_at : {S : Type 0} → Meaning S → S → ℕ → List ObjName
 held_at m s generation = if nat_lt (m.generation s) generation then [] else m.held s
 
@@ -79,7 +86,8 @@ start_objects (Done op result) = []
 start_objects (Cross job) = []
 start_objects Dead = []
 
--- the objects that a wake hands to the script: those of a start, or the one that stands for the operation that has ended
+-- the objects that a wake hands to the script: those of a start, or the one that stands for the operation that has
+-- ended
 abbrev pub wake_objects : Wake → List ℕ
 wake_objects (Start request) = 0 ∷ 1 ∷ []
 wake_objects (Done op result) = (2 + op.0) ∷ []
@@ -158,13 +166,15 @@ nothing_done = record {
 }
 
 -- the turn of the meaning was made; where memory was wanting, the objects have their links still
-abbrev pub DoesTurn : {S : Type 0} → Meaning S → S → TurnIn → S → List IoObject → Result Out NoMemory → Type 0
-DoesTurn m before given after objects (Ok out) = m.turn before given ≡ record { isolate = after; objects = objects; out = out }
-DoesTurn m before given after objects (Err e) = links_of objects ≡ links_of given.objects
+abbrev pub Turns : {S : Type 0} → Meaning S → S → TurnIn → S → List IoObject → Result Out NoMemory → Type 0
+Turns m before given after objects (Ok out) =
+    m.turn before given ≡ record { isolate = after; objects = objects; out = out }
+Turns m before given after objects (Err e) = links_of objects ≡ links_of given.objects
 
 -- the handle was held where the turn starts, or the wake hands it to the script
 abbrev pub was_held : {S : Type 0} → Meaning S → S → TurnIn → ℕ → ℕ → Bool
-was_held m s t req obj = has_object (held_at m s t.generation) req obj || ((req == t.req.0) && has_number (wake_objects t.wake) obj)
+was_held m s t req obj =
+    has_object (held_at m s t.generation) req obj || ((req == t.req.0) && has_number (wake_objects t.wake) obj)
 
 -- the turn let the handle go
 abbrev pub lets_go : Out → ℕ → ℕ → ℕ → Bool
@@ -172,7 +182,8 @@ lets_go out own req obj = ((req == own) && has_obj out.freed obj) || has_object 
 
 -- each handle of the request that is held names one of its objects, as does the wake
 pub record HoldsObjects {S : Type 0} (m : Meaning S) (s : S) (t : TurnIn) : Type 0 where
-  pub held : (obj : ℕ) → has_object (held_at m s t.generation) t.req.0 obj ≡ true → has_number (object_numbers t.objects) obj ≡ true
+  pub held : (obj : ℕ) → has_object (held_at m s t.generation) t.req.0 obj ≡ true
+      → has_number (object_numbers t.objects) obj ≡ true
   pub done : (obj : ℕ) → has_number (done_objects t.wake) obj ≡ true → has_number (object_numbers t.objects) obj ≡ true
 
 -- the first isolate of a Worker
@@ -187,28 +198,36 @@ pub record IsFirst {S : Type 0} (m : Meaning S) (def : WorkerDef) (names : List 
 -- a turn that is not dead
 pub record IsTurn {S : Type 0} (m : Meaning S) (s : S) (t : TurnIn) (gives : TurnGives S) : Type 0 where
   -- it makes the objects of a start, and one for each operation
-  pub made : numbers gives.out.made ≡ start_objects t.wake ++ count_from (2 + started_at m s t.generation t.req.0) (length gives.out.ops)
+  pub made : numbers gives.out.made ≡ start_objects t.wake ++ count_from (2 + started_at m s t.generation t.req.0)
+      (length gives.out.ops)
   -- its operations are numbered on from those that the request has started
-  pub numbered : map (λ o. o.op.0) gives.out.ops ≡ count_from (started_at m s t.generation t.req.0) (length gives.out.ops)
+  pub numbered : map (λ o. o.op.0) gives.out.ops ≡ count_from (started_at m s t.generation t.req.0)
+      (length gives.out.ops)
   -- its operations are counted, and those of no other request
-  pub counted : gives.out.condemned ≡ false → m.started gives.isolate t.req.0 ≡ started_at m s t.generation t.req.0 + length gives.out.ops
-  pub others : gives.out.condemned ≡ false → (req : ℕ) → req ≢ t.req.0 → m.started gives.isolate req ≡ started_at m s t.generation req
+  pub counted : gives.out.condemned ≡ false → m.started gives.isolate t.req.0
+      ≡ started_at m s t.generation t.req.0 + length gives.out.ops
+  pub others : gives.out.condemned ≡ false → (req : ℕ) → req ≢ t.req.0 → m.started gives.isolate req
+      ≡ started_at m s t.generation req
   -- the objects after it are those that it was given and behind them those that it made
   pub objects : object_numbers gives.objects ≡ object_numbers t.objects ++ numbers gives.out.made
   -- what it uses is among the request's objects, where the handles that are held are
-  pub uses : HoldsObjects m s t → (obj : ℕ) → has_obj gives.out.uses obj ≡ true → has_number (object_numbers gives.objects) obj ≡ true
+  pub uses : HoldsObjects m s t → (obj : ℕ) → has_obj gives.out.uses obj ≡ true
+      → has_number (object_numbers gives.objects) obj ≡ true
   -- a stray use is of another request's object
   pub stray : (req obj : ℕ) → has_object gives.out.stray req obj ≡ true → req ≢ t.req.0
   -- what it frees is ascending, without repeats and among the request's objects
   pub rises : Rises (numbers gives.out.freed)
   pub freed : (obj : ℕ) → has_obj gives.out.freed obj ≡ true → has_number (object_numbers gives.objects) obj ≡ true
   -- a handle that is held after it was held before it or came by the wake, and was not let go
-  pub held : gives.out.condemned ≡ false → (req obj : ℕ) → has_object (m.held gives.isolate) req obj ≡ true → was_held m s t req obj ≡ true
-  pub kept : gives.out.condemned ≡ false → (req obj : ℕ) → has_object (m.held gives.isolate) req obj ≡ true → lets_go gives.out t.req.0 req obj ≡ false
+  pub held : gives.out.condemned ≡ false → (req obj : ℕ) → has_object (m.held gives.isolate) req obj ≡ true
+      → was_held m s t req obj ≡ true
+  pub kept : gives.out.condemned ≡ false → (req obj : ℕ) → has_object (m.held gives.isolate) req obj ≡ true
+      → lets_go gives.out t.req.0 req obj ≡ false
   -- what it frees was held before it or came by the wake
   pub freed_held : (obj : ℕ) → has_obj gives.out.freed obj ≡ true → was_held m s t t.req.0 obj ≡ true
   -- what it releases was held before it, and is of another request
-  pub released : (req obj : ℕ) → has_object gives.out.released req obj ≡ true → has_object (held_at m s t.generation) req obj ≡ true
+  pub released : (req obj : ℕ) → has_object gives.out.released req obj ≡ true
+      → has_object (held_at m s t.generation) req obj ≡ true
   pub released_other : (req obj : ℕ) → has_object gives.out.released req obj ≡ true → req ≢ t.req.0
   -- its operations go to the Worker's targets, and stay within the budget
   pub targets : list_all (λ o. list_any (same_name o.target) (targets (m.worker s))) gives.out.ops ≡ true
@@ -219,16 +238,11 @@ pub record IsTurn {S : Type 0} (m : Meaning S) (s : S) (t : TurnIn) (gives : Tur
   pub worker : m.worker gives.isolate ≡ m.worker s
   pub workers : m.workers gives.isolate ≡ m.workers s
 
--- a dead turn: heap and objects stay as they are, and nothing was done
+-- a dead turn: the isolate and the objects stay as they are, and nothing was done
 pub record IsDeadTurn {S : Type 0} (m : Meaning S) (s : S) (t : TurnIn) (gives : TurnGives S) : Type 0 where
   pub out : gives.out ≡ nothing_done
   pub objects : gives.objects ≡ t.objects
-  pub held : m.held gives.isolate ≡ m.held s
-  pub started : (req : ℕ) → m.started gives.isolate req ≡ m.started s req
-  pub generation : m.generation gives.isolate ≡ m.generation s
-  pub condemned : m.condemned gives.isolate ≡ m.condemned s
-  pub worker : m.worker gives.isolate ≡ m.worker s
-  pub workers : m.workers gives.isolate ≡ m.workers s
+  pub isolate : gives.isolate ≡ s
 
 -- an isolate that a run may come to: the first one of a Worker, and what a turn leaves of such an isolate
 pub data IsReached {S : Type 0} (m : Meaning S) : S → Type 0 where
@@ -246,4 +260,5 @@ pub record IsLawful {S : Type 0} (m : Meaning S) : Type 0 where
   -- each object keeps its link, and one that was made has none
   pub links : (s : S) (t : TurnIn) → IsReached m s → links_of (m.turn s t).objects ≡ links_of t.objects
   -- a turn reads no link
-  pub reads_no_link : (s : S) (t : TurnIn) → IsReached m s → m.turn s (record t { objects = map unlinked t.objects }) ≡ record (m.turn s t) { objects = map unlinked (m.turn s t).objects }
+  pub reads_no_link : (s : S) (t : TurnIn) → IsReached m s → m.turn s (record t { objects = map unlinked t.objects })
+      ≡ record (m.turn s t) { objects = map unlinked (m.turn s t).objects }

@@ -1,5 +1,6 @@
 -- Isolates that answer a start at once, start no operation and keep no handle; and that they keep the laws of isolates.
-use Rattle.std.specs.Prelude.{length, ◌≡◌, ℕ, nat_lt, ◌==◌, ◌+◌, ◌≤◌, Bool, true, false, ◌&&◌, ◌||◌, if◌then◌else◌, List, [], ◌∷◌, ◌++◌, map, Option, Some, None, refl}
+use Rattle.std.specs.Prelude.{length, ◌≡◌, ℕ, nat_lt, ◌==◌, ◌+◌, ◌≤◌, Bool, true, false, ◌&&◌, ◌||◌, if◌then◌else◌}
+use Rattle.std.specs.Prelude.{List, [], ◌∷◌, ◌++◌, map, Option, Some, None, refl}
 use Rattle.std.proofs.Common.{sym, ap, ◌∙◌, subst, arith}
 use Rattle.std.proofs.lemmas.Bool.{false≢true, eq-eqb}
 use Rattle.std.specs.List.{list_any, list_all}
@@ -13,7 +14,10 @@ use Rattle.wd_base.specs.declared.objects.OpStart.{OpStart}
 use Rattle.wd_base.specs.declared.objects.Wake.{Wake}
 use Rattle.wd_base.specs.declared.objects.Wake.TheVariants.{Start, Done, Cross, Dead}
 use Rattle.wd_graph.specs.Names.{same_name, targets}
-use Rattle.wd_machine.specs.Meaning.{Meaning, TurnIn, TurnGives, IsLawful, IsTurn, IsDeadTurn, is_dead, is_dead_wake, started_at, held_at, has_object, spent, start_objects, wake_objects, numbers, object_numbers, has_obj, has_number, links_of, link_of, unlinked, nothing_done, Rises, count_from}
+use Rattle.wd_machine.specs.Meaning.{Meaning, TurnIn, TurnGives, IsLawful, IsTurn, IsDeadTurn, is_dead, is_dead_wake}
+use Rattle.wd_machine.specs.Meaning.{started_at, held_at, has_object, spent, start_objects, wake_objects, numbers}
+use Rattle.wd_machine.specs.Meaning.{object_numbers, has_obj, has_number, links_of, link_of, unlinked, nothing_done}
+use Rattle.wd_machine.specs.Meaning.{Rises, count_from}
 use Rattle.wd_machine.specs.declared.turn.Out.{Out}
 
 -- the numbers of the objects of a start
@@ -42,7 +46,8 @@ new_objects (Done op result) = []
 new_objects (Cross job) = []
 new_objects Dead = []
 
--- what such an isolate is: its first one, its Worker, its generation, itself in another generation, and its answer with the steps of it
+-- what such an isolate is: its first one, its Worker, its generation, itself in another generation, and its answer with
+-- the steps of it
 pub record Quiet (S : Type 0) : Type 0 where
   pub start : WorkerDef → List (List ℕ) → Option S
   pub worker : S → WorkerDef
@@ -55,8 +60,10 @@ pub record Quiet (S : Type 0) : Type 0 where
 -- a first isolate is its Worker's, of generation 0, and another generation changes nothing else
 pub record IsQuiet {S : Type 0} (q : Quiet S) : Type 0 where
   pub first_worker : (def : WorkerDef) (names : List (List ℕ)) (s : S) → q.start def names ≡ Some s → q.worker s ≡ def
-  pub first_workers : (def : WorkerDef) (names : List (List ℕ)) (s : S) → q.start def names ≡ Some s → q.workers s ≡ names
-  pub first_generation : (def : WorkerDef) (names : List (List ℕ)) (s : S) → q.start def names ≡ Some s → q.generation s ≡ 0
+  pub first_workers : (def : WorkerDef) (names : List (List ℕ)) (s : S) → q.start def names ≡ Some s → q.workers s
+      ≡ names
+  pub first_generation : (def : WorkerDef) (names : List (List ℕ)) (s : S) → q.start def names ≡ Some s → q.generation s
+      ≡ 0
   pub worker : (s : S) (generation : ℕ) → q.worker (q.renewed s generation) ≡ q.worker s
   pub workers : (s : S) (generation : ℕ) → q.workers (q.renewed s generation) ≡ q.workers s
   pub generation : (s : S) (generation : ℕ) → q.generation (q.renewed s generation) ≡ generation
@@ -67,7 +74,12 @@ is_over q s t = nat_lt t.generation (q.generation s) || is_dead_wake t.wake
 
 -- a turn that is not dead
 abbrev pub live_turn : {S : Type 0} → Quiet S → S → TurnIn → TurnGives S
-live_turn q s t = record { isolate = q.renewed s t.generation; objects = t.objects ++ new_objects t.wake; out = quiet_out (q.reply s) q.steps t.wake }
+live_turn q s t = record {
+  isolate = q.renewed s t.generation;
+  objects = t.objects ++ new_objects t.wake;
+  out =
+      quiet_out (q.reply s) q.steps t.wake;
+}
 
 -- once its generation is over, a turn changes nothing
 abbrev pub dead_turn : {S : Type 0} → S → TurnIn → TurnGives S
@@ -139,7 +151,8 @@ unlinked_push [] Dead = refl
 unlinked_push (o ∷ os) w = ap (λ rest. unlinked o ∷ rest) (unlinked_push os w)
 
 -- an object without a link adds none
-pub links_push_one : (os : List IoObject) (number : ℕ) (kind : ObjKind) → links_of (os ++ new_object number kind ∷ []) ≡ links_of os
+pub links_push_one : (os : List IoObject) (number : ℕ) (kind : ObjKind) → links_of (os ++ new_object number kind ∷ [])
+    ≡ links_of os
 links_push_one [] number kind = refl
 links_push_one (o ∷ os) number kind = ap (λ ls. link_of o.obj.0 o.link ++ ls) (links_push_one os number kind)
 
@@ -157,10 +170,54 @@ record DoesLittle (w : Wake) (out : Out) : Type 0 where
 
 -- a quiet turn does little, whatever woke it
 does_little : (r : Reply) (n : ℕ) (w : Wake) → DoesLittle w (quiet_out r n w)
-does_little r n (Start request) = record { made = λ started. refl; ops = refl; rises = (omega arith, tt); freed_new = λ obj e. e; freed_wake = λ obj e. e; unused = λ obj e. false≢true e; no_stray = λ req obj e. false≢true e; unreleased = λ req obj e. false≢true e; blameless = refl }
-does_little r n (Done op result) = record { made = λ started. refl; ops = refl; rises = tt; freed_new = λ obj e. absurd (false≢true e); freed_wake = λ obj e. absurd (false≢true e); unused = λ obj e. false≢true e; no_stray = λ req obj e. false≢true e; unreleased = λ req obj e. false≢true e; blameless = refl }
-does_little r n (Cross job) = record { made = λ started. refl; ops = refl; rises = tt; freed_new = λ obj e. absurd (false≢true e); freed_wake = λ obj e. absurd (false≢true e); unused = λ obj e. false≢true e; no_stray = λ req obj e. false≢true e; unreleased = λ req obj e. false≢true e; blameless = refl }
-does_little r n Dead = record { made = λ started. refl; ops = refl; rises = tt; freed_new = λ obj e. absurd (false≢true e); freed_wake = λ obj e. absurd (false≢true e); unused = λ obj e. false≢true e; no_stray = λ req obj e. false≢true e; unreleased = λ req obj e. false≢true e; blameless = refl }
+does_little r n (Start request) = record {
+  made = λ started. refl;
+  ops = refl;
+  rises = (omega arith, tt);
+  freed_new =
+      λ obj e. e;
+  freed_wake = λ obj e. e;
+  unused = λ obj e. false≢true e;
+  no_stray = λ req obj e. false≢true e;
+  unreleased = λ req obj e. false≢true e;
+  blameless = refl;
+}
+does_little r n (Done op result) = record {
+  made = λ started. refl;
+  ops = refl;
+  rises = tt;
+  freed_new =
+      λ obj e. absurd (false≢true e);
+  freed_wake = λ obj e. absurd (false≢true e);
+  unused = λ obj e. false≢true e;
+  no_stray = λ req obj e. false≢true e;
+  unreleased = λ req obj e. false≢true e;
+  blameless = refl;
+}
+does_little r n (Cross job) = record {
+  made = λ started. refl;
+  ops = refl;
+  rises = tt;
+  freed_new =
+      λ obj e. absurd (false≢true e);
+  freed_wake = λ obj e. absurd (false≢true e);
+  unused = λ obj e. false≢true e;
+  no_stray = λ req obj e. false≢true e;
+  unreleased = λ req obj e. false≢true e;
+  blameless = refl;
+}
+does_little r n Dead = record {
+  made = λ started. refl;
+  ops = refl;
+  rises = tt;
+  freed_new =
+      λ obj e. absurd (false≢true e);
+  freed_wake = λ obj e. absurd (false≢true e);
+  unused = λ obj e. false≢true e;
+  no_stray = λ req obj e. false≢true e;
+  unreleased = λ req obj e. false≢true e;
+  blameless = refl;
+}
 
 -- a number that the wake hands out was held, of the turn's own request
 handed : (b c : Bool) (n : ℕ) → c ≡ true → (b || ((n == n) && c)) ≡ true
@@ -168,42 +225,42 @@ handed true c n e = refl
 handed false c n e = ap (λ b. b && c) (eq-eqb n n refl) ∙ e
 
 -- a turn that is not dead keeps the laws of turns
-live_lawful : {S : Type 0} (q : Quiet S) → IsQuiet q → (s : S) (t : TurnIn) → IsTurn (quiet_means q) s t (live_turn q s t)
-live_lawful q is s t = let does : DoesLittle t.wake (quiet_out (q.reply s) q.steps t.wake) = does_little (q.reply s) q.steps t.wake in record {
-  made = does.made (started_at (quiet_means q) s t.generation t.req.0) ∙ ap (λ ops. start_objects t.wake ++ count_from (2 + started_at (quiet_means q) s t.generation t.req.0) (length ops)) (sym does.ops);
-  numbered = ap (λ ops. map (λ (o : OpStart). o.op.0) ops) does.ops ∙ ap (λ ops. count_from (started_at (quiet_means q) s t.generation t.req.0) (length ops)) (sym does.ops);
-  counted = λ e. no_zero (nat_lt (q.generation s) t.generation) ∙ ap (λ ops. started_at (quiet_means q) s t.generation t.req.0 + length ops) (sym does.ops);
-  others = λ e req ne. zero_either (nat_lt (q.generation s) t.generation);
-  objects = numbers_push t.objects (new_objects t.wake) ∙ ap (λ ns. object_numbers t.objects ++ ns) (new_numbers (q.reply s) q.steps t.wake);
-  uses = λ h obj e. absurd (does.unused obj e);
-  stray = λ req obj e. absurd (does.no_stray req obj e);
-  rises = does.rises;
-  freed = λ obj e. subst (λ ns. has_number ns obj ≡ true) (sym (numbers_push t.objects (new_objects t.wake))) (has_right (object_numbers t.objects) (object_numbers (new_objects t.wake)) obj (does.freed_new obj e));
-  held = λ c req obj e. absurd (false≢true e);
-  kept = λ c req obj e. absurd (false≢true e);
-  freed_held = λ obj e. handed (has_object (held_at (quiet_means q) s t.generation) t.req.0 obj) (has_number (wake_objects t.wake) obj) t.req.0 (does.freed_wake obj e);
-  released = λ req obj e. absurd (does.unreleased req obj e);
-  released_other = λ req obj e. absurd (does.unreleased req obj e);
-  targets = ap (λ ops. list_all (λ (o : OpStart). list_any (same_name o.target) (targets (q.worker s))) ops) does.ops;
-  within = subst (λ ops. spent ops ≤ t.left) (sym does.ops) (least t.left);
-  generation = is.generation s t.generation;
-  condemned = does.blameless;
-  worker = is.worker s t.generation;
-  workers = is.workers s t.generation;
-}
+live_lawful : {S : Type 0} (q : Quiet S) → IsQuiet q → (s : S) (t : TurnIn)
+    → IsTurn (quiet_means q) s t (live_turn q s t)
+live_lawful q is s t = let does : DoesLittle t.wake (quiet_out (q.reply s) q.steps t.wake) =
+    does_little (q.reply s) q.steps t.wake in record {
+      made = does.made (started_at (quiet_means q) s t.generation t.req.0)
+          ∙ ap (λ ops. start_objects t.wake ++ count_from (2 + started_at (quiet_means q) s t.generation t.req.0)
+          (length ops)) (sym does.ops);
+      numbered = ap (λ ops. map (λ (o : OpStart). o.op.0) ops) does.ops
+          ∙ ap (λ ops. count_from (started_at (quiet_means q) s t.generation t.req.0) (length ops)) (sym does.ops);
+      counted = λ e. no_zero (nat_lt (q.generation s) t.generation)
+          ∙ ap (λ ops. started_at (quiet_means q) s t.generation t.req.0 + length ops) (sym does.ops);
+      others = λ e req ne. zero_either (nat_lt (q.generation s) t.generation);
+      objects = numbers_push t.objects (new_objects t.wake) ∙ ap (λ ns. object_numbers t.objects ++ ns)
+          (new_numbers (q.reply s) q.steps t.wake);
+      uses = λ h obj e. absurd (does.unused obj e);
+      stray = λ req obj e. absurd (does.no_stray req obj e);
+      rises = does.rises;
+      freed = λ obj e. subst (λ ns. has_number ns obj ≡ true) (sym (numbers_push t.objects (new_objects t.wake)))
+          (has_right (object_numbers t.objects) (object_numbers (new_objects t.wake)) obj (does.freed_new obj e));
+      held = λ c req obj e. absurd (false≢true e);
+      kept = λ c req obj e. absurd (false≢true e);
+      freed_held = λ obj e. handed (has_object (held_at (quiet_means q) s t.generation) t.req.0 obj)
+          (has_number (wake_objects t.wake) obj) t.req.0 (does.freed_wake obj e);
+      released = λ req obj e. absurd (does.unreleased req obj e);
+      released_other = λ req obj e. absurd (does.unreleased req obj e);
+      targets = ap (λ ops. list_all (λ (o : OpStart). list_any (same_name o.target) (targets (q.worker s))) ops) does.ops;
+      within = subst (λ ops. spent ops ≤ t.left) (sym does.ops) (least t.left);
+      generation = is.generation s t.generation;
+      condemned = does.blameless;
+      worker = is.worker s t.generation;
+      workers = is.workers s t.generation;
+    }
 
 -- a dead turn keeps the laws of dead turns
 dead_lawful : {S : Type 0} (q : Quiet S) (s : S) (t : TurnIn) → IsDeadTurn (quiet_means q) s t (dead_turn s t)
-dead_lawful q s t = record {
-  out = refl;
-  objects = refl;
-  held = refl;
-  started = λ req. refl;
-  generation = refl;
-  condemned = refl;
-  worker = refl;
-  workers = refl;
-}
+dead_lawful q s t = record { out = refl; objects = refl; isolate = refl }
 
 -- one false part makes the whole false
 and_false : (b : Bool) → (b && false) ≡ false
@@ -217,24 +274,46 @@ or_false false = refl
 
 -- it is never condemned, so a generation is over only below its own
 over_exact : {S : Type 0} (q : Quiet S) (s : S) (t : TurnIn) → is_dead (quiet_means q) s t ≡ is_over q s t
-over_exact q s t = ap (λ b. (nat_lt t.generation (q.generation s) || b) || is_dead_wake t.wake) (and_false (t.generation == q.generation s)) ∙ ap (λ b. b || is_dead_wake t.wake) (or_false (nat_lt t.generation (q.generation s)))
+over_exact q s t = ap (λ b. (nat_lt t.generation (q.generation s) || b) || is_dead_wake t.wake)
+    (and_false (t.generation == q.generation s)) ∙ ap (λ b. b || is_dead_wake t.wake)
+    (or_false (nat_lt t.generation (q.generation s)))
 
 -- no turn touches links
-links_kept : {S : Type 0} (q : Quiet S) (s : S) (t : TurnIn) (b : Bool) → links_of (if b then dead_turn s t else live_turn q s t).objects ≡ links_of t.objects
+links_kept : {S : Type 0} (q : Quiet S) (s : S) (t : TurnIn) (b : Bool)
+    → links_of (if b then dead_turn s t else live_turn q s t).objects ≡ links_of t.objects
 links_kept q s t true = refl
 links_kept q s t false = links_push t.objects t.wake
 
 -- a turn does not read the links of its objects
-unread : {S : Type 0} (q : Quiet S) (s : S) (t : TurnIn) (b : Bool) → (if b then dead_turn s (record t { objects = map unlinked t.objects }) else live_turn q s (record t { objects = map unlinked t.objects })) ≡ record (if b then dead_turn s t else live_turn q s t) { objects = map unlinked (if b then dead_turn s t else live_turn q s t).objects }
+unread : {S : Type 0} (q : Quiet S) (s : S) (t : TurnIn) (b : Bool)
+    → (if b then dead_turn s (record t { objects = map unlinked t.objects })
+    else live_turn q s (record t { objects = map unlinked t.objects }))
+    ≡ record (if b then dead_turn s t else live_turn q s t) {
+      objects =
+          map unlinked (if b then dead_turn s t else live_turn q s t).objects;
+    }
 unread q s t true = refl
-unread q s t false = λ i. record { isolate = q.renewed s t.generation; objects = sym (unlinked_push t.objects t.wake) i; out = quiet_out (q.reply s) q.steps t.wake }
+unread q s t false = λ i. record {
+  isolate = q.renewed s t.generation;
+  objects = sym (unlinked_push t.objects t.wake) i;
+  out = quiet_out (q.reply s) q.steps t.wake;
+}
 
 -- a quiet isolate keeps the laws
 pub quiet_lawful : {S : Type 0} (q : Quiet S) → IsQuiet q → IsLawful (quiet_means q)
 quiet_lawful q is = record {
-  first = λ def names s e. record { worker = is.first_worker def names s e; workers = is.first_workers def names s e; generation = is.first_generation def names s e; condemned = refl; held = refl; started = λ req. refl };
-  turns = λ s t reached alive. subst (λ b. IsTurn (quiet_means q) s t (if b then dead_turn s t else live_turn q s t)) (sym (sym (over_exact q s t) ∙ alive)) (live_lawful q is s t);
-  dead = λ s t reached over. subst (λ b. IsDeadTurn (quiet_means q) s t (if b then dead_turn s t else live_turn q s t)) (sym (sym (over_exact q s t) ∙ over)) (dead_lawful q s t);
+  first = λ def names s e. record {
+    worker = is.first_worker def names s e;
+    workers = is.first_workers def names s e;
+    generation = is.first_generation def names s e;
+    condemned = refl;
+    held = refl;
+    started = λ req. refl;
+  };
+  turns = λ s t reached alive. subst (λ b. IsTurn (quiet_means q) s t (if b then dead_turn s t else live_turn q s t))
+      (sym (sym (over_exact q s t) ∙ alive)) (live_lawful q is s t);
+  dead = λ s t reached over. subst (λ b. IsDeadTurn (quiet_means q) s t (if b then dead_turn s t else live_turn q s t))
+      (sym (sym (over_exact q s t) ∙ over)) (dead_lawful q s t);
   links = λ s t reached. links_kept q s t (is_over q s t);
   reads_no_link = λ s t reached. unread q s t (is_over q s t);
 }

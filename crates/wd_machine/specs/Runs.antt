@@ -1,5 +1,5 @@
--- Whole journals: the state after one, and which are legal.
-use Rattle.std.specs.Prelude.{◌≡◌, ℕ, Bool, true, ◌&&◌, List, [], ◌∷◌, Some, None, is_none, Result, Ok, Err}
+-- Journals: the state after one, which are legal, and what its entries made and freed.
+use Rattle.std.specs.Prelude.{◌≡◌, Bool, true, ◌&&◌, List, [], ◌∷◌, Some, None, is_none, Result, Ok, Err}
 use Rattle.wd_base.specs.declared.config.Config.{Config}
 use Rattle.wd_machine.specs.declared.apply.Core.{Core}
 use Rattle.wd_machine.specs.declared.journal.Entry.{Entry}
@@ -7,9 +7,10 @@ use Rattle.wd_machine.specs.declared.journal.Journal.{Journal}
 use Rattle.wd_machine.specs.declared.refusal.ApplyEnd.{ApplyEnd}
 use Rattle.wd_machine.specs.declared.refusal.ApplyEnd.TheVariants.{Refused as Refuses, NoMemory}
 use Rattle.wd_machine.specs.declared.state.State.{State}
+use Rattle.wd_machine.specs.declared.state.Terms.{Terms}
 use Rattle.wd_machine.specs.First.{first_state}
 use Rattle.wd_machine.specs.Meaning.{Meaning}
-use Rattle.wd_machine.specs.Rules.{broken, broken_in, is_open, is_whole}
+use Rattle.wd_machine.specs.Rules.{AreTerms, broken}
 use Rattle.wd_machine.specs.Steps.{step}
 
 -- the state after some entries, from a state on
@@ -22,13 +23,18 @@ abbrev pub after : {I : Type 0} → Meaning I → Config → List Entry → Stat
 after m world entries = after_from m (first_state m world) entries
 
 -- each entry is allowed after those before it, from a state on
-abbrev pub legal_from : {I : Type 0} → Meaning I → Bool → (List ℕ → Bool) → Config → State I → List Entry → Bool
-legal_from m whole opens world s [] = true
-legal_from m whole opens world s (e ∷ es) = is_none (broken_in whole opens world s e) && legal_from m whole opens world (step m s e) es
+abbrev pub legal_from : {I : Type 0} → Meaning I → Config → Terms → State I → List Entry → Bool
+legal_from m world terms s [] = true
+legal_from m world terms s (e ∷ es) = is_none (broken m world terms s e) && legal_from m world terms (step m s e) es
 
--- each entry of the journal is allowed after those before it, under the journal's head
-abbrev pub legal : {I : Type 0} → Meaning I → Config → Journal → Bool
-legal m world journal = legal_from m (is_whole journal.head) (is_open world journal.head) world (first_state m world) journal.entries
+-- each entry is allowed after those before it, under these terms
+abbrev pub legal_under : {I : Type 0} → Meaning I → Config → Terms → List Entry → Bool
+legal_under m world terms entries = legal_from m world terms (first_state m world) entries
+
+-- each entry of the journal is allowed after those before it, under what the journal's head says
+abbrev pub IsLegal : {I : Type 0} → Meaning I → Config → Journal → Type 0
+IsLegal m world journal =
+    (terms : Terms) → AreTerms world journal.head terms → legal_under m world terms journal.entries ≡ true
 
 -- an entry that is allowed was taken, or memory was wanting
 abbrev pub Takes : {I : Type 0} → Meaning I → Core I → Entry → Core I → Result Unit ApplyEnd → Type 0
@@ -38,6 +44,7 @@ Takes m old e new (Err NoMemory) = (new.failed ≡ true) × (new.world ≡ old.w
 
 -- one call of `apply`: the step where the entry is allowed, else the least rule that it breaks and nothing changed
 abbrev pub Applies : {I : Type 0} → Meaning I → Core I → Entry → Core I → Result Unit ApplyEnd → Type 0
-Applies m old e new (Ok x) = (broken old.world old.head old.machine e ≡ None) × (new ≡ record old { machine = step m old.machine e })
-Applies m old e new (Err (Refuses refused)) = (broken old.world old.head old.machine e ≡ Some refused) × (new ≡ old)
+Applies m old e new (Ok x) =
+    (broken m old.world old.terms old.machine e ≡ None) × (new ≡ record old { machine = step m old.machine e })
+Applies m old e new (Err (Refuses refused)) = (broken m old.world old.terms old.machine e ≡ Some refused) × (new ≡ old)
 Applies m old e new (Err NoMemory) = (new.failed ≡ true) × (new.world ≡ old.world)

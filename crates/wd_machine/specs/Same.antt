@@ -12,7 +12,8 @@ use Rattle.wd_base.specs.declared.ids.JobNo.{JobNo}
 use Rattle.wd_base.specs.declared.ids.Req.{Req}
 use Rattle.wd_machine.specs.declared.turn.Out.{Out}
 use Rattle.wd_machine.specs.declared.turn.OutField.{OutField}
-use Rattle.wd_machine.specs.declared.turn.OutField.TheVariants.{Made, Changed, Freed, Uses, Stray, Ops, Reply, Waits, Cross, Released, Condemned, Heavy, Logs, Steps}
+use Rattle.wd_machine.specs.declared.turn.OutField.TheVariants.{Made, Changed, Freed, Uses, Stray, Ops, Reply, Waits}
+use Rattle.wd_machine.specs.declared.turn.OutField.TheVariants.{Cross, Released, Condemned, Heavy, Logs, Steps}
 
 -- the two trees of numbers are one
 abbrev pub same_code : Gv → Gv → Bool

@@ -1,12 +1,15 @@
-ghost use Rattle.std.specs.Prelude.{◌≡◌, IfOk, OnOk, IsTrue, Err, false};
+ghost use Rattle.std.specs.Prelude.{◌≡◌, IfOk, IsTrue, Err, false};
 ghost use Rattle.wd_machine.specs.declared.refusal.ApplyEnd.TheVariants.{NoMemory as WantOfMemory};
 ghost use Rattle.wd_machine.specs.First.{AreFirst, first_state};
+ghost use Rattle.wd_machine.specs.Rules.{AreTerms};
 ghost use Rattle.wd_machine.specs.Runs.{Applies, Takes};
 
 use crate::isolate::Isolate;
 use crate::journal::{Entry, Head};
 use crate::machine::Machine;
 use crate::refusal::ApplyEnd;
+use crate::state::Terms;
+use crate::terms::terms_of;
 use std::alloc::Global;
 use wd_base::NoMemory;
 use wd_graph::World;
@@ -15,7 +18,7 @@ use wd_graph::World;
 #[derive(Drop)]
 pub struct Core<I> {
     world: World,
-    head: Head,
+    terms: Terms,
     machine: Machine<I>,
     /// It was in want of memory.
     failed: bool,
@@ -27,16 +30,20 @@ impl<I: Isolate + Drop> Core<I> {
     pub fn new(
         alloc: Global,
         world: World,
-        head: Head,
+        head: &Head,
         isolates: Vec<I>,
     ) -> Result<Core<I>, NoMemory>
         requires { AreFirst I.means world isolates.items }
-        ensures { IfOk result (λ core. core ≡ record { world = world; head = head; machine = first_state I.means world; failed = false }) }
+        ensures world { IfOk result (λ core. core.world ≡ world) }
+        ensures state { IfOk result (λ core. core.machine ≡ first_state I.means world) }
+        ensures whole { IfOk result (λ core. core.failed ≡ false) }
+        ensures terms { IfOk result (λ core. AreTerms world head.now core.terms) }
     {
+        let terms = terms_of(alloc, &world, head)?;
         let machine = Machine::new(alloc, &world, isolates)?;
         Ok(Core {
             world,
-            head,
+            terms,
             machine,
             failed: false,
         })
@@ -53,7 +60,7 @@ impl<I: Isolate> Core<I> {
         if self.failed {
             return Err(ApplyEnd::NoMemory);
         }
-        match self.machine.refused(&self.world, &self.head, entry) {
+        match self.machine.refused(&self.world, &self.terms, entry) {
             Ok(Some(refused)) => Err(ApplyEnd::Refused(refused)),
             Ok(None) => self.take(entry),
             Err(NoMemory) => {

@@ -1,22 +1,11 @@
-ghost use Rattle.std.specs.Prelude.{◌≡◌, ◌-◌, ◌++◌, if◌then◌else◌, [], filter, map, not, IfOk, OnOk};
-ghost use Rattle.wd_machine.specs.Ends.{failure, is_settled, is_idle, ends, is_hung, whole_out, without, left_live, freed_by};
-ghost use Rattle.wd_machine.specs.Meaning.{has_obj, spent};
-ghost use Rattle.wd_machine.specs.Steps.{kept_objects, flight_of, TurnsRow};
+ghost use Rattle.std.specs.Prelude.{◌≡◌, ◌-◌, ◌++◌, IfOk};
+ghost use Rattle.wd_machine.specs.Ends.{failure, is_settled, is_idle, ends, lost_why, whole_reply, given_reply};
+ghost use Rattle.wd_machine.specs.Ends.{is_deaf, without, kept_objects};
+ghost use Rattle.wd_machine.specs.Meaning.{has_obj};
 
-use crate::state::{Flight, Pending, RequestState};
-use crate::turn::Out;
+use crate::state::{Pending, RequestState};
 use std::alloc::Global;
-use std::mem;
-use wd_base::{NoMemory, Obj, Objects, Objs, OpStart, Reply, Seq, TryClone, Why};
-
-/// What a turn that has ended did: the `Out` of its entry, what it freed, and whether its request
-/// has ended.
-#[derive(Debug, Drop)]
-pub struct Done {
-    pub out: Out,
-    pub freed: Objs,
-    pub ended: bool,
-}
+use wd_base::{NoMemory, Obj, Objects, Objs, Reply, Seq, TryClone, Why};
 
 /// The reply of a request that its script gave none: 500, with a text (RFC 9110, section 15.6.1).
 pub fn failure(alloc: Global, why: Why) -> Result<Reply, NoMemory>
@@ -36,43 +25,77 @@ pub fn failure(alloc: Global, why: Why) -> Result<Reply, NoMemory>
 }
 
 /// The request has replied, or its caller is gone.
-fn is_settled(row: &RequestState, out: &Out) -> bool
-    ensures { result ≡ is_settled row.now out.now }
+fn is_settled(row: &RequestState, pending: &Pending) -> bool
+    ensures { result ≡ is_settled row.now pending.now }
 {
-    row.replied || out.reply.is_some() || row.detached
+    row.replied || pending.out.reply.is_some() || row.detached
 }
 
 /// Nothing is left that could go on with the request; `waiting` tells whether it waits for a turn.
-fn is_idle(row: &RequestState, waiting: bool, out: &Out) -> bool
-    ensures { result ≡ is_idle row.now waiting out.now }
+fn is_idle(row: &RequestState, waiting: bool, pending: &Pending) -> bool
+    ensures { result ≡ is_idle row.now waiting pending.now }
 {
-    row.flights.len() == 0 && out.ops.len() == 0 && !waiting
+    row.flights.len() == 0 && pending.out.ops.len() == 0 && !waiting
 }
 
 /// The turn ends its request.
-fn ends(row: &RequestState, waiting: bool, out: &Out) -> bool
-    ensures { result ≡ ends row.now waiting out.now }
+pub fn ends(row: &RequestState, waiting: bool, pending: &Pending) -> bool
+    ensures { result ≡ ends row.now waiting pending.now }
 {
-    out.condemned || (out.waits == 0 && is_settled(row, out)) || is_idle(row, waiting, out)
+    pending.dead
+        || pending.out.condemned
+        || (pending.out.waits == 0 && is_settled(row, pending))
+        || is_idle(row, waiting, pending)
 }
 
-/// Nothing is left of the request, and it has no reply.
-pub fn is_hung(row: &RequestState, waiting: bool, out: &Out) -> bool
-    ensures { result ≡ is_hung row.now waiting out.now }
+/// Why a request gets a reply that its script did not give, if it does.
+fn lost_why(settled: bool, dead: bool, idle: bool) -> Option<Why>
+    ensures { result ≡ lost_why settled dead idle }
 {
-    is_idle(row, waiting, out) && !is_settled(row, out)
-}
-
-/// The `Out` of the turn's entry, with the reply that a hung request gets.
-fn whole_out(alloc: Global, row: &RequestState, waiting: bool, out: Out) -> Result<Out, NoMemory>
-    ensures { IfOk result (λ whole. whole ≡ whole_out row.now waiting out) }
-{
-    if !is_hung(row, waiting, &out) {
-        return Ok(out);
+    match (settled, dead, idle) {
+        (true, _, _) => None,
+        (false, true, _) => Some(Why::Dead),
+        (false, false, true) => Some(Why::Hung),
+        (false, false, false) => None,
     }
-    let mut out = out;
-    out.reply = Some(failure(alloc, Why::Hung)?);
-    Ok(out)
+}
+
+/// The reply that stands in the turn's entry.
+pub fn whole_reply(
+    alloc: Global,
+    row: &RequestState,
+    waiting: bool,
+    pending: &Pending,
+) -> Result<Option<Reply>, NoMemory>
+    ensures { IfOk result (λ reply. reply ≡ whole_reply row.now waiting pending.now) }
+{
+    let settled = is_settled(row, pending);
+    let idle = is_idle(row, waiting, pending);
+    match lost_why(settled, pending.dead, idle) {
+        Some(why) => Ok(Some(failure(alloc, why)?)),
+        None => pending.out.reply.try_clone(alloc),
+    }
+}
+
+/// The request takes no reply any more.
+pub fn is_deaf(row: &RequestState) -> bool
+    ensures { result ≡ is_deaf row.now }
+{
+    row.replied || row.detached
+}
+
+/// The reply that the request gets, if it still takes one.
+pub fn given_reply(
+    alloc: Global,
+    row: &RequestState,
+    reply: &Option<Reply>,
+) -> Result<Option<Reply>, NoMemory>
+    ensures { IfOk result (λ given. given ≡ given_reply row.now reply.now) }
+{
+    if is_deaf(row) {
+        return Ok(None);
+    }
+    reply.try_clone(alloc)
 }
 
 /// An object is among these.
@@ -82,107 +105,20 @@ fn has(objs: &[Obj], number: u32) -> bool
     objs.iter().any(|o| o.0 == number)
 }
 
-/// The objects that are left when these are freed.
-fn left_live(alloc: Global, live: &[Obj], made: &[Obj], freed: &[Obj]) -> Result<Objs, NoMemory>
-    ensures { IfOk result (λ left. left ≡ without freed.now (live.now ++ made.now)) }
+/// The objects that are not among those that were freed.
+pub fn without(objs: Objs, freed: &[Obj]) -> Objs
+    ensures { result ≡ without freed.now objs }
 {
-    let left = live
-        .iter()
-        .chain(made.iter())
-        .copied()
-        .filter(|o| !has(freed, o.0))
-        .collect(alloc)?;
-    Ok(Seq::from_vec(left))
-}
-
-/// What the turn frees: what it says, and where the request ends all that are left.
-fn freed_by(alloc: Global, freed: &[Obj], left: &[Obj], ended: bool) -> Result<Objs, NoMemory>
-    ensures { IfOk result (λ all. all ≡ freed.now ++ (if ended then left.now else [])) }
-{
-    let mut all = Seq::copy(alloc, freed)?;
-    if ended {
-        all.extend(left)?;
-    }
-    Ok(all)
+    let mut kept = objs.into_vec();
+    kept.retain(|o| !has(freed, o.0));
+    Seq::from_vec(kept)
 }
 
 /// The objects that are left, with what they hold.
-fn keep_objects(objects: Objects, freed: &[Obj]) -> Objects
+pub fn keep_objects(objects: Objects, freed: &[Obj]) -> Objects
     ensures { result ≡ kept_objects freed.now objects }
 {
     let mut kept = objects.into_vec();
     kept.retain(|o| !has(freed, o.obj.0));
     Seq::from_vec(kept)
-}
-
-/// What the operations leave of a budget.
-fn left_after(left: u32, ops: &[OpStart]) -> u32
-    ensures { result ≡ left - spent ops.now }
-{
-    let mut rest = left;
-    for op in ops {
-        rest = rest.saturating_sub(1).saturating_sub(op.allow);
-    }
-    rest
-}
-
-/// The operations in flight, with those that have started now behind them.
-fn with_started(
-    alloc: Global,
-    flights: Seq<Flight>,
-    ops: &[OpStart],
-) -> Result<Seq<Flight>, NoMemory>
-    ensures { IfOk result (λ all. all ≡ flights ++ map flight_of ops.now) }
-{
-    let mut all = flights;
-    for op in ops {
-        let target = op.target.try_clone(alloc)?;
-        let flight = Flight { op: op.op, target };
-        all.push(flight)?;
-    }
-    Ok(all)
-}
-
-/// The items, and none of them where the request has ended.
-fn unless_ended<T: Drop>(alloc: Global, ended: bool, items: Seq<T>) -> Seq<T>
-    ensures { result ≡ (if ended then [] else items) }
-{
-    if ended { Seq::new(alloc) } else { items }
-}
-
-/// Ends the pending turn of a row, if there is one.
-pub fn end_turn(
-    alloc: Global,
-    row: &mut RequestState,
-    waiting: bool,
-) -> Result<Option<Done>, NoMemory>
-    ensures { IfOk result (λ done. TurnsRow row.old row.new waiting row.old.pending done) }
-{
-    let Some(pending) = row.pending.take() else {
-        return Ok(None);
-    };
-    let Pending { objects, out } = pending;
-    let ended = ends(row, waiting, &out);
-    let out = whole_out(alloc, row, waiting, out)?;
-    let freed = out.freed.as_slice();
-    let live = left_live(alloc, row.live.as_slice(), out.made.as_slice(), freed)?;
-    let gone = freed_by(alloc, freed, live.as_slice(), ended)?;
-    let objects = keep_objects(objects, freed);
-    let flights = mem::replace(&mut row.flights, Seq::new(alloc));
-    row.flights = unless_ended(
-        alloc,
-        ended,
-        with_started(alloc, flights, out.ops.as_slice())?,
-    );
-    row.left = left_after(row.left, out.ops.as_slice());
-    row.live = unless_ended(alloc, ended, live);
-    row.objects = unless_ended(alloc, ended, objects);
-    row.replied = row.replied || out.reply.is_some();
-    row.waits = out.waits;
-    row.ended = ended;
-    Ok(Some(Done {
-        out,
-        freed: gone,
-        ended,
-    }))
 }

@@ -7,7 +7,7 @@ use wd_base::{NoMemory, Objects, Req, Wake};
 /// Contracts see an isolate as its Worker's definition, the names of the Workers among its targets,
 /// its generation and its heap, through the meanings and under the laws of `Meaning`.
 pub trait Isolate: Send {
-    ghost use Rattle.wd_machine.specs.Meaning.{Meaning, TurnIn, DoesTurn, IsLawful};
+    ghost use Rattle.wd_machine.specs.Meaning.{Meaning, Turns, IsLawful, given};
 
     /// What the isolate and its turns mean.
     ghost means: { Meaning Self };
@@ -24,7 +24,7 @@ pub trait Isolate: Send {
         wake: &Wake,
         objects: &mut Objects,
     ) -> Result<Out, NoMemory>
-        ensures { DoesTurn means self.old (record { generation = generation; req = req; left = allow; wake = wake.now; objects = objects.old }) self.new objects.new result };
+        ensures { Turns means self.old (given generation req allow wake.now objects.old) self.new objects.new result };
 
     /// The laws that each isolate keeps.
     ghost lawful: { IsLawful means };

@@ -2,6 +2,7 @@
 #![tactic(auto)]
 
 mod apply;
+mod compare;
 mod ends;
 mod find;
 mod isolate;
@@ -9,18 +10,24 @@ mod journal;
 mod machine;
 mod quiet;
 mod refusal;
+mod row;
 mod rules;
+mod seat;
 mod state;
-mod steps;
+mod terms;
 mod turn;
+mod worker;
 
 pub use apply::Core;
-pub use find::Places;
 pub use isolate::Isolate;
 pub use journal::{Entries, Entry, Head, Journal};
 pub use machine::Machine;
 pub use quiet::{add_new_objects, is_dead_wake};
 pub use refusal::{ApplyEnd, Kept, Refused};
-pub use state::{Due, Flight, Pending, RequestState, Run, State, Waiter, Waiters, WorkerState};
+pub use state::{
+    Conclusion, Duty, Flight, Pending, RequestState, SeatState, State, Terms, Waiter, Waiters,
+    WorkerState,
+};
+pub use terms::terms_of;
 pub use turn::{Out, OutField};
 pub use wd_base::{IoObject, ObjKind, ObjName, OpResult, OpStart, Origin, Wake};

@@ -1,20 +1,22 @@
-ghost use Rattle.std.specs.Prelude.{◌≡◌, IfOk, length};
+ghost use Rattle.std.specs.Prelude.{◌≡◌, ◌==◌, IfOk, is_none, length, is_some};
 ghost use Rattle.std.specs.Option.{option_copied};
 ghost use Rattle.wd_machine.specs.declared.refusal.Kept.TheVariants.{Number, Name, Field, Nothing};
-ghost use Rattle.wd_graph.specs.Names.{is_public, service_of};
-ghost use Rattle.wd_machine.specs.Ends.{whole_out};
-ghost use Rattle.wd_machine.specs.Found.{ArePlaces, request_of, worker_for, waiters_at, waiting, front, holder_of};
-ghost use Rattle.wd_machine.specs.Rules.{kept_number, is_number, is_open, is_whole, is_live_on, broken_arrive, broken_origin, broken_begin, broken_front, broken_turn, broken_pending, broken_field, broken_drain};
-ghost use Rattle.wd_machine.specs.Same.{coded_crosses, first_difference, last_difference, is_same};
+ghost use Rattle.std.specs.List.{find};
+ghost use Rattle.wd_graph.specs.Names.{service_of};
+ghost use Rattle.wd_machine.specs.Duties.{is_number};
+ghost use Rattle.wd_machine.specs.Found.{waiters_at, waiting, front, holder_of, run_of, running_in, due_in, is_live_on};
+ghost use Rattle.wd_machine.specs.Rules.{kept_number, is_open, is_fresh, broken_arrive, broken_origin, broken_front};
+ghost use Rattle.wd_machine.specs.Rules.{broken_field, is_op, flight_in, broken_flight, broken_answer};
+ghost use Rattle.wd_machine.specs.Rules.{broken_served, is_attached, outer_origin, is_outer, broken_cancel};
+ghost use Rattle.wd_machine.specs.Rules.{broken_drain};
 
-use crate::ends::{failure, is_hung};
-use crate::find::{Places, due_count, request_at, request_named, run_on, waits_in, worker_at};
-use crate::journal::Head;
+use crate::find::{is_live_on, request_named, worker_named};
 use crate::refusal::{Kept, Refused};
-use crate::state::{Due, Pending, RequestState, Run, Waiter, WorkerState};
-use crate::turn::{Out, OutField};
+use crate::seat::is_number;
+use crate::state::{Flight, RequestState, SeatState, Terms, Waiters, WorkerState};
+use crate::turn::OutField;
 use std::alloc::Global;
-use wd_base::{Bytes, Crosses, NoMemory, Origin, Reply, Req, Same, Seat, Service, TryClone, Why};
+use wd_base::{Bytes, NoMemory, Origin, Req, Seat, TryClone};
 use wd_graph::World;
 
 /// A refusal that keeps a number.
@@ -28,7 +30,7 @@ pub fn number_refused(rule: u8, number: u64) -> Option<Refused>
 }
 
 /// A refusal that keeps a request's number, or nothing where there is no request.
-fn request_refused(rule: u8, req: Option<Req>) -> Option<Refused>
+pub fn request_refused(rule: u8, req: Option<Req>) -> Option<Refused>
     ensures { result ≡ Some (record { rule = rule; kept = kept_number req }) }
 {
     match req {
@@ -59,80 +61,68 @@ fn name_refused(alloc: Global, rule: u8, name: &Bytes) -> Result<Option<Refused>
 }
 
 /// Requests may arrive from outside at the service.
-fn is_open(world: &World, head: &Head, service: &[u8]) -> bool
-    ensures { result ≡ is_open world.now head.now service.now }
+fn is_open(terms: &Terms, service: &[u8]) -> bool
+    ensures { result ≡ is_open terms.now service.now }
 {
-    match head {
-        Head::Whole => is_public(world, service),
-        Head::Part(_) => false,
-    }
-}
-
-/// A socket answers for the service.
-fn is_public(world: &World, service: &[u8]) -> bool
-    ensures { result ≡ is_public world.now service.now }
-{
-    world
-        .sockets()
+    terms
+        .opens
         .as_slice()
         .iter()
-        .any(|socket| socket.service.as_slice() == service)
+        .any(|name| name.as_slice() == service)
 }
 
-/// The head is that of a whole journal.
-fn is_whole(head: &Head) -> bool
-    ensures { result ≡ is_whole head.now }
+/// There is a service of this name.
+fn is_service(world: &World, name: &[u8]) -> bool
+    ensures { result ≡ is_some (service_of name.now world.now.services) }
 {
-    match head {
-        Head::Whole => true,
-        Head::Part(_) => false,
-    }
+    world.number(name).is_some()
 }
 
-/// The service of this name.
-fn service_named<'a>(world: &'a World, name: &[u8]) -> Option<&'a Service>
-    ensures { option_copied result ≡ service_of name.now world.now.services }
+/// The number is that of no request yet, and not 0.
+fn is_fresh(req: Req, rows: &[RequestState]) -> bool
+    ensures { result ≡ is_fresh req.0 rows.now }
 {
-    let services = world.services().as_slice();
-    services.iter().find(|s| s.name.as_slice() == name)
+    req.0 != 0 && request_named(rows, req).is_none()
 }
 
-/// Why the arrival of a request is not allowed, if it is not.
+/// Why the arrival of a request is not allowed, if it is not; `is_duty` tells whether it is its
+/// seat's front duty.
 pub fn arrive_refused(
     alloc: Global,
+    terms: &Terms,
     world: &World,
-    head: &Head,
     rows: &[RequestState],
+    is_duty: bool,
     req: Req,
     service: &Bytes,
     origin: Origin,
     allow: u32,
 ) -> Result<Option<Refused>, NoMemory>
-    ensures { IfOk result (λ r. r ≡ broken_arrive (is_whole head.now) (is_open world.now head.now service.now) world.now rows.now req.0 service.now origin allow) }
+    ensures { IfOk result (λ r. r ≡ broken_arrive terms.now world.now rows.now is_duty req.0 service.now origin allow) }
 {
-    if req.0 == 0 || request_named(rows, req).is_some() {
+    if !is_fresh(req, rows) {
         return Ok(number_refused(3, req.0));
     }
-    if service_named(world, service.as_slice()).is_none() {
+    if !is_service(world, service.as_slice()) {
         return name_refused(alloc, 4, service);
     }
-    origin_refused(alloc, world, head, service, origin, allow)
+    origin_refused(alloc, terms, is_duty, service, origin, allow)
 }
 
 /// Why the origin of a request is not allowed, if it is not.
 fn origin_refused(
     alloc: Global,
-    world: &World,
-    head: &Head,
+    terms: &Terms,
+    is_duty: bool,
     service: &Bytes,
     origin: Origin,
     allow: u32,
 ) -> Result<Option<Refused>, NoMemory>
-    ensures { IfOk result (λ r. r ≡ broken_origin (is_whole head.now) (is_open world.now head.now service.now) service.now origin allow) }
+    ensures { IfOk result (λ r. r ≡ broken_origin terms.now is_duty service.now origin allow) }
 {
     match origin {
         Origin::Outside(_) => {
-            if !is_open(world, head, service.as_slice()) {
+            if !is_open(terms, service.as_slice()) {
                 return name_refused(alloc, 5, service);
             }
             if allow != 1000 {
@@ -140,9 +130,14 @@ fn origin_refused(
             }
             Ok(None)
         }
-        Origin::Child(_, _) => Ok(nothing_refused(7)),
+        Origin::Child(_, _) => {
+            if !is_duty {
+                return Ok(nothing_refused(7));
+            }
+            Ok(None)
+        }
         Origin::Caller => {
-            if !is_whole(head) && is_open(world, head, service.as_slice()) && allow <= 1000 {
+            if terms.is_part && is_open(terms, service.as_slice()) && allow <= 1000 {
                 return Ok(None);
             }
             Ok(number_refused(8, 1000))
@@ -151,27 +146,27 @@ fn origin_refused(
 }
 
 /// The request of the waiter that has waited longest.
-fn front_of<I>(worker: Option<&WorkerState<I>>) -> Option<Req>
+pub fn front_of<I>(worker: Option<&WorkerState<I>>) -> Option<Req>
     ensures { result ≡ waiting (front (waiters_at (option_copied worker.entry))) }
 {
     match worker {
-        Some(worker) => first_waiting(worker.waiters.as_slice()),
+        Some(worker) => first_waiting(&worker.waiters),
         None => None,
     }
 }
 
 /// The request of the first waiter.
-fn first_waiting(waiters: &[Waiter]) -> Option<Req>
+fn first_waiting(waiters: &Waiters) -> Option<Req>
     ensures { result ≡ waiting (front waiters.now) }
 {
-    match waiters.first() {
+    match waiters.front() {
         Some(waiter) => Some(waiter.req),
         None => None,
     }
 }
 
 /// The request whose turn has the Worker's isolate.
-fn holder_of<I>(worker: Option<&WorkerState<I>>) -> Option<Req>
+pub fn holder_of<I>(worker: Option<&WorkerState<I>>) -> Option<Req>
     ensures { result ≡ holder_of (option_copied worker.entry) }
 {
     match worker {
@@ -180,55 +175,38 @@ fn holder_of<I>(worker: Option<&WorkerState<I>>) -> Option<Req>
     }
 }
 
-/// The request lives on the seat.
-fn is_live_on(row: Option<&RequestState>, seat: Seat) -> bool
-    ensures { result ≡ is_live_on seat.0 (option_copied row.entry) }
+/// The request whose turn a seat runs.
+pub fn run_of(seat: Option<&SeatState>) -> Option<Req>
+    ensures { result ≡ run_of (running_in (option_copied seat.entry)) }
 {
-    match row {
-        Some(row) => !row.ended && row.seat.0 == seat.0,
-        None => false,
+    match seat {
+        Some(seat) => run_in(seat),
+        None => None,
     }
 }
 
-/// Why the request's turn may not begin on the seat, if it may not.
-pub fn begin_refused_at<I>(
-    workers: &[WorkerState<I>],
-    rows: &[RequestState],
-    running: &[Run],
-    due: &[Due],
-    places: Places,
-    seat: Seat,
-) -> Option<Refused>
-    requires { ArePlaces workers.now rows.now places }
-    ensures { result ≡ broken_begin (request_of places.req.0 rows.now) (worker_for (request_of places.req.0 rows.now) workers.now) running.now due.now seat.0 places.req.0 }
+/// The request whose turn the seat runs.
+fn run_in(seat: &SeatState) -> Option<Req>
+    ensures { result ≡ run_of seat.now.running }
 {
-    let row = request_at(rows, places);
-    let worker = worker_at(workers, rows, places);
-    begin_refused(row, worker, running, due, seat, places.req)
+    match &seat.running {
+        Some(pending) => Some(pending.req),
+        None => None,
+    }
 }
 
-/// Why a turn may not begin, if it may not.
-fn begin_refused<I>(
-    row: Option<&RequestState>,
-    worker: Option<&WorkerState<I>>,
-    running: &[Run],
-    due: &[Due],
-    seat: Seat,
-    req: Req,
-) -> Option<Refused>
-    ensures { result ≡ broken_begin (option_copied row.entry) (option_copied worker.entry) running.now due.now seat.0 req.0 }
+/// How many objects a seat has to free.
+pub fn due_count(seat: Option<&SeatState>) -> usize
+    ensures { result ≡ length (due_in (option_copied seat.entry)) }
 {
-    if !is_live_on(row, seat) {
-        return number_refused(9, req.0);
+    match seat {
+        Some(seat) => seat.due.len(),
+        None => 0,
     }
-    let first = front_of(worker);
-    let holder = holder_of(worker);
-    let run = run_on(running, seat);
-    front_refused(first, holder, run, due_count(due, seat) as u64, req)
 }
 
 /// Why the front waiter's turn may not begin, if it may not.
-fn front_refused(
+pub fn front_refused(
     first: Option<Req>,
     holder: Option<Req>,
     run: Option<Req>,
@@ -252,98 +230,8 @@ fn front_refused(
     None
 }
 
-/// The request has this number.
-fn is_number(found: Option<Req>, req: Req) -> bool
-    ensures { result ≡ is_number req.0 found }
-{
-    match found {
-        Some(found) => found.0 == req.0,
-        None => false,
-    }
-}
-
-/// Why the seat's turn of the request may not end with this `Out`, if it may not.
-pub fn turn_refused_at<I>(
-    alloc: Global,
-    workers: &[WorkerState<I>],
-    rows: &[RequestState],
-    running: &[Run],
-    places: Places,
-    seat: Seat,
-    out: &Out,
-) -> Result<Option<Refused>, NoMemory>
-    requires { ArePlaces workers.now rows.now places }
-    ensures { IfOk result (λ r. r ≡ broken_turn (request_of places.req.0 rows.now) (worker_for (request_of places.req.0 rows.now) workers.now) running.now seat.0 places.req.0 out.now) }
-{
-    let row = request_at(rows, places);
-    let worker = worker_at(workers, rows, places);
-    turn_refused(alloc, row, worker, running, seat, places.req, out)
-}
-
-/// Why a turn may not end with this `Out`, if it may not.
-fn turn_refused<I>(
-    alloc: Global,
-    row: Option<&RequestState>,
-    worker: Option<&WorkerState<I>>,
-    running: &[Run],
-    seat: Seat,
-    req: Req,
-    out: &Out,
-) -> Result<Option<Refused>, NoMemory>
-    ensures { IfOk result (λ r. r ≡ broken_turn (option_copied row.entry) (option_copied worker.entry) running.now seat.0 req.0 out.now) }
-{
-    let run = run_on(running, seat);
-    if !is_number(run, req) {
-        return Ok(request_refused(14, run));
-    }
-    pending_refused(alloc, row, waits_in(worker, req), out)
-}
-
-/// Why the pending turn does not end with this `Out`, if it does not.
-fn pending_refused(
-    alloc: Global,
-    row: Option<&RequestState>,
-    waiting: bool,
-    out: &Out,
-) -> Result<Option<Refused>, NoMemory>
-    ensures { IfOk result (λ r. r ≡ broken_pending (option_copied row.entry) waiting out.now) }
-{
-    let Some(row) = row else {
-        return Ok(nothing_refused(14));
-    };
-    let Some(pending) = &row.pending else {
-        return Ok(nothing_refused(14));
-    };
-    out_refused(alloc, row, pending, waiting, out)
-}
-
-/// The first field in which the `Out` differs from what the turn did, if one does.
-fn out_refused(
-    alloc: Global,
-    row: &RequestState,
-    pending: &Pending,
-    waiting: bool,
-    out: &Out,
-) -> Result<Option<Refused>, NoMemory>
-    ensures { IfOk result (λ r. r ≡ broken_field (first_difference (whole_out row.now waiting pending.now.out) out.now)) }
-{
-    if is_hung(row, waiting, &pending.out) {
-        let reply = Some(failure(alloc, Why::Hung)?);
-        return Ok(field_refused(first_difference(&pending.out, &reply, out)));
-    }
-    let field = first_difference(&pending.out, &pending.out.reply, out);
-    Ok(field_refused(field))
-}
-
-/// Why a seat may not free what is due, which it never may yet.
-pub fn drain_refused(run: Option<Req>) -> Option<Refused>
-    ensures { result ≡ broken_drain run }
-{
-    request_refused(21, run)
-}
-
 /// A refusal that keeps a field, where one differs.
-fn field_refused(field: Option<OutField>) -> Option<Refused>
+pub fn field_refused(field: Option<OutField>) -> Option<Refused>
     ensures { result ≡ broken_field field }
 {
     match field {
@@ -355,72 +243,132 @@ fn field_refused(field: Option<OutField>) -> Option<Refused>
     }
 }
 
-/// The two lists of kept jobs are equal.
-fn same_crosses(a: &Crosses, b: &Crosses) -> bool
-    ensures { result ≡ is_same coded_crosses a.now b.now }
+/// The operation of this number.
+fn flight_named(flights: &[Flight], op: u32) -> Option<&Flight>
+    ensures { option_copied result ≡ find (is_op op) flights.now }
 {
-    a.same(b)
+    flights.iter().find(|f| f.op.0 == op)
 }
 
-/// The two values are equal.
-fn is_same<T: Same>(a: &T, b: &T) -> bool
-    ensures { result ≡ is_same T.row.coded a.now b.now }
+/// The operation of the request that is in flight, where the request lives on the seat.
+fn flight_in(seat: Seat, op: u32, row: Option<&RequestState>) -> Option<&Flight>
+    ensures { option_copied result ≡ flight_in seat.0 op (option_copied row.entry) }
 {
-    a.same(b)
+    match row {
+        Some(row) => {
+            if is_live_on(Some(row), seat) {
+                flight_named(row.flights.as_slice(), op)
+            } else {
+                None
+            }
+        }
+        None => None,
+    }
 }
 
-/// The first field in which an `Out` with this reply in place of its own differs from another.
-fn first_difference(want: &Out, reply: &Option<Reply>, got: &Out) -> Option<OutField>
-    ensures { result ≡ first_difference (record want.now { reply = reply.now }) got.now }
+/// Why the operation may not be answered, if it may not.
+pub fn answer_refused<I>(
+    row: Option<&RequestState>,
+    workers: &[WorkerState<I>],
+    is_duty: bool,
+    seat: Seat,
+    op: u32,
+) -> Option<Refused>
+    ensures { result ≡ broken_answer (option_copied row.entry) workers.now is_duty seat.0 op }
 {
-    if !is_same(&want.made, &got.made) {
-        return Some(OutField::Made);
-    }
-    if !is_same(&want.changed, &got.changed) {
-        return Some(OutField::Changed);
-    }
-    if !is_same(&want.freed, &got.freed) {
-        return Some(OutField::Freed);
-    }
-    if !is_same(&want.uses, &got.uses) {
-        return Some(OutField::Uses);
-    }
-    if !is_same(&want.stray, &got.stray) {
-        return Some(OutField::Stray);
-    }
-    if !is_same(&want.ops, &got.ops) {
-        return Some(OutField::Ops);
-    }
-    if !is_same(reply, &got.reply) {
-        return Some(OutField::Reply);
-    }
-    if want.waits != got.waits {
-        return Some(OutField::Waits);
-    }
-    if !same_crosses(&want.cross, &got.cross) {
-        return Some(OutField::Cross);
-    }
-    if !is_same(&want.released, &got.released) {
-        return Some(OutField::Released);
-    }
-    last_difference(want, got)
+    flight_refused(workers, is_duty, flight_in(seat, op, row))
 }
 
-/// The first of the last fields in which two `Out`s differ.
-fn last_difference(want: &Out, got: &Out) -> Option<OutField>
-    ensures { result ≡ last_difference want.now got.now }
+/// Why an operation in flight may not be answered, if it may not.
+fn flight_refused<I>(
+    workers: &[WorkerState<I>],
+    is_duty: bool,
+    flight: Option<&Flight>,
+) -> Option<Refused>
+    ensures { result ≡ broken_flight workers.now is_duty (option_copied flight.entry) }
 {
-    if !is_same(&want.condemned, &got.condemned) {
-        return Some(OutField::Condemned);
+    let Some(flight) = flight else {
+        return nothing_refused(16);
+    };
+    if worker_named(workers, flight.target.as_slice()).is_none() || is_duty {
+        return None;
     }
-    if !is_same(&want.heavy, &got.heavy) {
-        return Some(OutField::Heavy);
+    nothing_refused(17)
+}
+
+/// Why the request may not be served, if it may not.
+pub fn served_refused<I>(
+    row: Option<&RequestState>,
+    worker: Option<&WorkerState<I>>,
+    seat: Seat,
+    req: Req,
+) -> Option<Refused>
+    ensures { result ≡ broken_served (option_copied row.entry) (option_copied worker.entry) seat.0 req.0 }
+{
+    if is_live_on(row, seat) && worker.is_none() {
+        return None;
     }
-    if !is_same(&want.logs, &got.logs) {
-        return Some(OutField::Logs);
+    number_refused(18, req.0)
+}
+
+/// The caller of the request is there.
+fn is_attached(row: Option<&RequestState>) -> bool
+    ensures { result ≡ is_attached (option_copied row.entry) }
+{
+    match row {
+        Some(row) => !row.detached,
+        None => false,
     }
-    if want.steps != got.steps {
-        return Some(OutField::Steps);
+}
+
+/// The origin is outside, or a caller that the journal does not show.
+fn outer_origin(origin: Origin) -> bool
+    ensures { result ≡ outer_origin origin }
+{
+    match origin {
+        Origin::Child(_, _) => false,
+        _ => true,
     }
-    None
+}
+
+/// The request came from outside, or from a caller that the journal does not show.
+fn is_outer(row: Option<&RequestState>) -> bool
+    ensures { result ≡ is_outer (option_copied row.entry) }
+{
+    match row {
+        Some(row) => outer_origin(row.origin),
+        None => false,
+    }
+}
+
+/// Why the request may not be cancelled, if it may not.
+pub fn cancel_refused(
+    row: Option<&RequestState>,
+    run: Option<Req>,
+    is_duty: bool,
+    seat: Seat,
+    req: Req,
+) -> Option<Refused>
+    ensures { result ≡ broken_cancel (option_copied row.entry) run is_duty seat.0 req.0 }
+{
+    if !(is_live_on(row, seat) && is_attached(row) && run.is_none()) {
+        return number_refused(19, req.0);
+    }
+    if is_duty || is_outer(row) {
+        return None;
+    }
+    nothing_refused(20)
+}
+
+/// Why a seat may not free what is due, if it may not.
+pub fn drain_refused(terms: &Terms, run: Option<Req>, due: usize) -> Option<Refused>
+    ensures { result ≡ broken_drain terms.now run due }
+{
+    if run.is_some() {
+        return request_refused(21, run);
+    }
+    if terms.is_part || due != 0 {
+        return None;
+    }
+    nothing_refused(21)
 }

@@ -1,5 +1,8 @@
 use crate::turn::Out;
-use wd_base::{Bytes, ObjName, ObjNames, Objects, Objs, Op, Origin, Req, Seat, Seq, Wake};
+use wd_base::{
+    Bytes, NameList, Notes, Objects, Objs, Op, Origin, Queue, Reply, Req, ReqData, Seat, Seq,
+    Stack, Wake,
+};
 
 /// A request that waits for a turn in its Worker's isolate, and what the turn is to take up.
 #[derive(Debug, Drop)]
@@ -9,7 +12,7 @@ pub struct Waiter {
 }
 
 /// Waiters, the one that has waited longest first.
-pub type Waiters = Seq<Waiter>;
+pub type Waiters = Queue<Waiter>;
 
 /// A Worker: its isolate, the generation in which requests begin, the request whose turn has the
 /// isolate, and the requests that wait for it.
@@ -18,6 +21,8 @@ pub struct WorkerState<I> {
     pub name: Bytes,
     pub isolate: I,
     pub generation: u64,
+    /// Its last turn left a heap so large that it is given up when no request needs it.
+    pub heavy: bool,
     pub holder: Option<Req>,
     pub waiters: Waiters,
 }
@@ -29,11 +34,23 @@ pub struct Flight {
     pub target: Bytes,
 }
 
-/// What a turn that runs will have done: the request's objects after it, and its `Out`.
+/// A turn that runs: its request, the request's objects after it, and what it will have done.
 #[derive(Debug, Drop)]
 pub struct Pending {
+    pub req: Req,
     pub objects: Objects,
     pub out: Out,
+    /// The request's generation is over, so that the turn runs nothing.
+    pub dead: bool,
+}
+
+/// What comes of a turn that has ended: whether its request ends, the reply that stands in the
+/// entry, and the one that the request gets.
+#[derive(Debug, Drop)]
+pub struct Conclusion {
+    pub over: bool,
+    pub whole: Option<Reply>,
+    pub given: Option<Reply>,
 }
 
 /// A request that has arrived.
@@ -54,8 +71,6 @@ pub struct RequestState {
     pub live: Objs,
     /// What those objects hold; empty while a turn of it runs, which has them.
     pub objects: Objects,
-    /// What its turn that runs will have done.
-    pub pending: Option<Pending>,
     pub replied: bool,
     /// How many promises its `waitUntil` waits for.
     pub waits: u32,
@@ -64,18 +79,44 @@ pub struct RequestState {
     pub ended: bool,
 }
 
-/// A seat runs a turn of this request.
-#[derive(Clone, Copy, Debug, Drop)]
-pub struct Run {
-    pub seat: Seat,
-    pub req: Req,
+/// What a seat owes before it does anything else.
+#[derive(Debug, Drop)]
+pub enum Duty {
+    /// An operation to a Worker is to arrive there as a child of its request.
+    Arrive {
+        parent: Req,
+        op: Op,
+        target: Bytes,
+        allow: u32,
+        request: ReqData,
+    },
+    /// The reply of a child is to answer the operation that it stands for.
+    Answer {
+        parent: Req,
+        op: Op,
+        reply: Reply,
+    },
+    /// The request has ended, and its children that live and are not detached are to be cancelled,
+    /// each time the least of them.
+    Children(Req),
 }
 
-/// An object that a seat has to free.
-#[derive(Clone, Copy, Debug, Drop)]
-pub struct Due {
+/// A seat: the turn that it runs, the objects that it has to free, and its duties, the first one
+/// first.
+#[derive(Debug, Drop)]
+pub struct SeatState {
     pub seat: Seat,
-    pub name: ObjName,
+    pub running: Option<Pending>,
+    pub due: Notes,
+    pub duties: Stack<Duty>,
+}
+
+/// What a journal's head says: the services at which requests may arrive from outside, and whether
+/// the journal is a part of one.
+#[derive(Debug, Drop)]
+pub struct Terms {
+    pub opens: NameList,
+    pub is_part: bool,
 }
 
 /// The state of the machine, as contracts see it.
@@ -85,12 +126,6 @@ pub struct State<I> {
     pub workers: Seq<WorkerState<I>>,
     /// The requests, in the order of their arrival.
     pub requests: Seq<RequestState>,
-    /// The turns that run, at most one a seat.
-    pub running: Seq<Run>,
-    /// What the seats have to free.
-    pub due: Seq<Due>,
-    /// The names of all objects that were made.
-    pub made: ObjNames,
-    /// The names of all objects that were freed.
-    pub freed: ObjNames,
+    /// The seats, by their numbers.
+    pub seats: Seq<SeatState>,
 }

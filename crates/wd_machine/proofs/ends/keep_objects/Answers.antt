@@ -1,6 +1,6 @@
 use Rattle.std.proofs.Common.{rules, ◌∙◌, ap}
 use Rattle.std.proofs.lemmas.Fn.{filter_same}
-use Rattle.wd_machine.specs.Steps.{kept_objects}
+use Rattle.wd_machine.specs.Ends.{kept_objects}
 use Rattle.wd_machine.proofs.ends.keep_objects.Goals as goal
 
 pub returns : goal.returns
