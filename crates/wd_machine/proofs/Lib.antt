@@ -1,5 +1,6 @@
 pub mod FirstLemmas
 pub mod KeyedLemmas
+pub mod RunLemmas
 pub mod SameLemmas
 pub mod StepLemmas
 pub mod TermsLemmas

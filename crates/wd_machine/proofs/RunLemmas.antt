@@ -3,12 +3,12 @@ use Rattle.std.proofs.Common.{◌≡◌, ℕ, Bool, true, false, ◌&&◌, List,
 use Rattle.std.specs.Prelude.{is_none}
 use Rattle.wd_base.specs.declared.config.Config.{Config}
 use Rattle.wd_machine.specs.declared.journal.Entry.{Entry}
-use Rattle.wd_machine.specs.declared.journal.Journal.{Journal}
 use Rattle.wd_machine.specs.declared.state.State.{State}
+use Rattle.wd_machine.specs.declared.state.Terms.{Terms}
 use Rattle.wd_machine.specs.First.{first_state}
 use Rattle.wd_machine.specs.Meaning.{Meaning}
-use Rattle.wd_machine.specs.Rules.{broken, broken_in, is_open, is_whole}
-use Rattle.wd_machine.specs.Runs.{after, after_from, legal, legal_from}
+use Rattle.wd_machine.specs.Rules.{broken}
+use Rattle.wd_machine.specs.Runs.{after, after_from, legal_from, legal_under}
 use Rattle.wd_machine.specs.Steps.{step}
 
 -- the state after one more entry, from a state on
@@ -21,24 +21,20 @@ pub after-push : {I : Type 0} (m : Meaning I) (world : Config) (es : List Entry)
 after-push m world es e = after_from-push m (first_state m world) es e
 
 -- from a state on, one more entry is allowed exactly where the entries before it are and it breaks no rule after them
-pub legal_from-push : {I : Type 0} (m : Meaning I) (whole : Bool) (opens : List ℕ → Bool) (world : Config) (s : State I) (es : List Entry) (e : Entry)
-    → legal_from m whole opens world s (es ++ e ∷ []) ≡ (legal_from m whole opens world s es && is_none (broken_in whole opens world (after_from m s es) e))
-legal_from-push m whole opens world s [] e =
-    elim (is_none (broken_in whole opens world s e)) as (λ b. (b && true) ≡ b) [
+pub legal_from-push : {I : Type 0} (m : Meaning I) (world : Config) (terms : Terms) (s : State I) (es : List Entry) (e : Entry)
+    → legal_from m world terms s (es ++ e ∷ []) ≡ (legal_from m world terms s es && is_none (broken m world terms (after_from m s es) e))
+legal_from-push m world terms s [] e =
+    elim (is_none (broken m world terms s e)) as (λ b. (b && true) ≡ b) [
       | true ↦ refl
       | false ↦ refl
     ]
-legal_from-push m whole opens world s (x ∷ es) e =
-    elim (is_none (broken_in whole opens world s x)) as (λ b. (b && legal_from m whole opens world (step m s x) (es ++ e ∷ [])) ≡ ((b && legal_from m whole opens world (step m s x) es) && is_none (broken_in whole opens world (after_from m (step m s x) es) e))) [
-      | true ↦ legal_from-push m whole opens world (step m s x) es e
+legal_from-push m world terms s (x ∷ es) e =
+    elim (is_none (broken m world terms s x)) as (λ b. (b && legal_from m world terms (step m s x) (es ++ e ∷ [])) ≡ ((b && legal_from m world terms (step m s x) es) && is_none (broken m world terms (after_from m (step m s x) es) e))) [
+      | true ↦ legal_from-push m world terms (step m s x) es e
       | false ↦ refl
     ]
 
--- a journal with one more entry
-abbrev pub pushed : Journal → Entry → Journal
-pushed journal e = record journal { entries = journal.entries ++ e ∷ [] }
-
 -- one more entry is legal exactly where the journal is and the entry breaks no rule after it
-pub legal-push : {I : Type 0} (m : Meaning I) (world : Config) (journal : Journal) (e : Entry)
-    → legal m world (pushed journal e) ≡ (legal m world journal && is_none (broken world journal.head (after m world journal.entries) e))
-legal-push m world journal e = legal_from-push m (is_whole journal.head) (is_open world journal.head) world (first_state m world) journal.entries e
+pub legal-push : {I : Type 0} (m : Meaning I) (world : Config) (terms : Terms) (es : List Entry) (e : Entry)
+    → legal_under m world terms (es ++ e ∷ []) ≡ (legal_under m world terms es && is_none (broken m world terms (after m world es) e))
+legal-push m world terms es e = legal_from-push m world terms (first_state m world) es e
