@@ -12,7 +12,7 @@ pub fn shown(asks: Asks<'_>) -> Option<(u8, &'static [u8])>
         Asks::Run(_) => None,
         Asks::Help => Some((0, help_text())),
         Asks::Version => Some((0, version_text())),
-        Asks::Fault => Some((0, fault_text())),
+        Asks::Fault => Some((1, fault_text())),
     }
 }
 
