@@ -8,7 +8,7 @@ use Rattle.wd_base.specs.declared.http.Reply.{Reply}
 use Rattle.wd_ports.specs.declared.told.LinkState.{LinkState}
 use Rattle.wd_ports.specs.declared.told.LinkOrigin.{LinkOrigin}
 use Rattle.wd_ports.specs.declared.told.LinkOrigin.TheVariants.{Socket as AtSocket, Peer}
-use Rattle.wd_ports.specs.Told.{blank}
+use Rattle.wd_ports.specs.Told.{Told, blank}
 use Rattle.wd_machine.specs.declared.journal.Entry.{Entry}
 use Rattle.http_in.specs.Stream.{Requests, ReadsAll, closing, IsFault, RequestsOf}
 use Rattle.http_text.specs.ReplyText.{reply_text, bad_reply}
@@ -107,3 +107,7 @@ pub record Session (sockets : List Socket) (journal : List Entry) (links : List 
 abbrev pub Done : List Socket → (LinkNo → Type 0) → List Entry → List LinkState → Type 0
 Done sockets gone journal links = (i : ℕ) → i < length links
     → ((link_at links i).shuts ≡ 1) × ((gone (number i) → ⊥) → WholeFrom sockets (link_at links i).origin (link_at links i) (talk 0 (i + 1) journal))
+
+-- the same of each link that is told
+abbrev pub AreDone : List Socket → Told → (LinkNo → Type 0) → List Entry → Type 0
+AreDone sockets told gone journal = IfSome told.links (Done sockets gone journal)

@@ -1,6 +1,8 @@
 -- One step on a link, among others.
 use Rattle.std.specs.Prelude.{◌≡◌, ◌≢◌, ◌⊎◌, ℕ, ◌≤◌, Bool, true, false, List, [], ◌++◌, Option, Some, None, Result, Ok, Err, IsErrOf}
+use Rattle.wd_base.specs.declared.config.Config.{Config}
 use Rattle.wd_base.specs.declared.ids.LinkNo.{LinkNo}
+use Rattle.wd_base.specs.declared.ids.SockNo.{SockNo}
 use Rattle.wd_base.specs.declared.ids.NoMemory.{NoMemory as NoMem}
 use Rattle.wd_base.specs.declared.http.ReqData.{ReqData}
 use Rattle.wd_base.specs.declared.http.Reply.{Reply}
@@ -25,7 +27,7 @@ use Rattle.http_in.specs.Stream.{Requests, Reads, ReadsAll, closing, IsFault, Is
 use Rattle.http_text.specs.ReplyText.{reply_text}
 use Rattle.wd_top.specs.Text.{line}
 use Rattle.wd_top.specs.Talk.{Talk, talk, answered, add_row}
-use Rattle.wd_top.specs.Session.{is_head, asked, arrivals, replies, AreAt, Carries, IsWhole}
+use Rattle.wd_top.specs.Session.{service_at, is_head, asked, arrivals, replies, AreAt, Carries, IsWhole}
 
 -- a request of the link was taken, and nothing else is new of the link
 abbrev pub Adds : LinkNo → List ℕ → ReqData → Option Reply → List Entry → List Entry → Type 0
@@ -149,3 +151,22 @@ pub record Moves (n : LinkNo) (service : List ℕ) (run run' : LinkRun) (old new
   pub socket : run'.socket ≡ run.socket
   pub others : Others n j j'
   pub here : (link : LinkState) → TendedAs Open service run link (talk 0 n.0 j) gone → TendedAs run'.stage service run' (change link) (talk 0 n.0 j') gone
+
+-- the answer to a request that came at this socket of a board's world, over a link of a port: what the port tells, and the
+-- board's entries, before it and after it
+abbrev pub RepliesOn : {P : Type 0} → (P → Told) → (P → LinkNo → Type 0) → LinkNo → P → P → Config × List Entry → Config × List Entry
+    → SockNo → ReqData → Bool → StepEnd → Type 0
+RepliesOn told gone n port port' board board' socket request close e =
+    Replies n (service_at board.0.sockets socket) request close e (gone port' n) (told port) (told port') board.1 board'.1
+
+-- the same of an answer to what was heard of the link
+abbrev pub HandlesOn : {P : Type 0} → (P → Told) → (P → LinkNo → Type 0) → LinkNo → P → P → Config × List Entry → Config × List Entry
+    → LinkRun → LinkRun → Heard → StepEnd → Type 0
+HandlesOn told gone n port port' board board' run run' heard e =
+    Handles n (service_at board.0.sockets run.socket) run run' heard e (told port) (told port') board.1 board'.1 (gone port' n)
+
+-- the same of one turn of attention to the link
+abbrev pub MovesOn : {P : Type 0} → (P → Told) → (P → LinkNo → Type 0) → LinkNo → P → P → Config × List Entry → Config × List Entry
+    → LinkRun → LinkRun → Type 0
+MovesOn told gone n port port' board board' run run' =
+    Moves n (service_at board.0.sockets run.socket) run run' (told port) (told port') board.1 board'.1 (gone port' n)

@@ -3,6 +3,7 @@ use Rattle.std.specs.Prelude.{◌≡◌, ◌⊎◌, ℕ, ◌<◌, ◌+◌, Bool,
 use Rattle.wd_base.specs.declared.ids.LinkNo.{LinkNo}
 use Rattle.wd_base.specs.declared.ids.SockNo.{SockNo}
 use Rattle.wd_base.specs.declared.config.Addr.{Addr}
+use Rattle.wd_base.specs.declared.config.Config.{Config}
 use Rattle.wd_base.specs.declared.config.Socket.{Socket}
 use Rattle.wd_ports.specs.declared.told.LinkState.{LinkState}
 use Rattle.wd_ports.specs.declared.told.LinkOrigin.TheVariants.{Socket as AtSocket}
@@ -47,6 +48,10 @@ pub record Tended (sockets : List Socket) (told : Told) (usable gone : LinkNo �
   pub places : (i : ℕ) → i < length runs → (run_at runs i).socket.0 < length sockets
   pub quiet : (n : ℕ) → IsOutside (length runs) n → talk 0 n j ≡ no_talk
   pub given : told.given ≡ length runs
+
+-- the same of a port, by what it tells, and of a board's world and entries
+abbrev pub IsTableOf : {P : Type 0} → (P → Told) → (usable gone : P → LinkNo → Type 0) → P → Config × List Entry → List LinkRun → Type 0
+IsTableOf told usable gone port board runs = Tended board.0.sockets (told port) (usable port) (gone port) board.1 runs
 
 -- what is told of files and hosts is as it was
 abbrev pub SameFiles : Told → Told → Type 0
