@@ -1,5 +1,6 @@
 -- The journal that a board keeps, beside the machine's state.
-use Rattle.std.specs.Prelude.{◌≡◌, ℕ, ◌+◌, Bool, true, false, List, [], ◌∷◌, ◌++◌, length, Option, Some, None, Result, Ok, Err}
+use Rattle.std.specs.Prelude.{◌≡◌, ℕ, ◌+◌, Bool, true, false, List, [], ◌∷◌, ◌++◌, length, Option, Some, None, Result}
+use Rattle.std.specs.Prelude.{Ok, Err}
 use Rattle.wd_base.specs.declared.config.Config.{Config}
 use Rattle.wd_base.specs.declared.http.Reply.{Reply}
 use Rattle.wd_base.specs.declared.http.ReqData.{ReqData}
@@ -66,7 +67,8 @@ pub record Rests {I : Type 0} (s : State I) (n : ℕ) : Type 0 where
   pub idle : AreIdle s.workers
 
 -- the state is that after the entries, and at rest
-pub record Stands {I : Type 0} (m : Meaning I) (world : Config) (s : State I) (entries : List Entry) (n : ℕ) : Type 0 where
+pub record Stands {I : Type 0} (m : Meaning I) (world : Config) (s : State I) (entries : List Entry) (n : ℕ) :
+    Type 0 where
   pub state : s ≡ after m world entries
   pub rests : Rests s n
   pub count : n ≡ arrival_count entries
@@ -86,8 +88,8 @@ abbrev pub Ends : Req → Option Out → List Entry → List Entry → Option Re
 Ends q None old new reply = (new ≡ old) × (reply ≡ None)
 Ends q (Some out) old new reply = (new ≡ old ++ Turn the_seat q out ∷ []) × (reply ≡ out.reply)
 
--- the entries are a legal journal over a linked world; and unless memory ran out, the machine stands as it is after them, and
--- where no request was left each has ended
+-- the entries are a legal journal over a linked world; and unless memory ran out, the machine
+-- stands as it is after them, and where no request was left each has ended
 abbrev pub IsKept : {I : Type 0} → Meaning I → Config → State I → List Entry → ℕ → Bool → Bool → Type 0
 IsKept m world s entries count lingers stopped = IsRun m world entries × (first_unknown world ≡ None)
     × (stopped ≡ false → Stands m world s entries count) × (stopped ≡ false → lingers ≡ false → AreEnded s.requests)

@@ -54,7 +54,8 @@ abbrev pub AskToServe : {Z : Type 0} → List (String Z) → Told → Config →
 AskToServe words told world = IfSome told.files (λ s. Plans (spoken words) s (Starts verb.Serve world))
 
 -- what holds of each port that is handed out, by what it tells
-abbrev pub AtPorts : {P : Type 0} → (P → Told) → (P → LinkNo → Type 0) → (P → Faults) → List P → List Entry → Outcome → Config → Type 0
+abbrev pub AtPorts : {P : Type 0} → (P → Told) → (P → LinkNo → Type 0) → (P → Faults) → List P → List Entry → Outcome
+    → Config → Type 0
 AtPorts told gone faults ports entries o world = All (λ p. Holds world o (told p) (gone p) (faults p) entries) ports
 
 -- files and hosts of each port are as they were in the maker's plan for the one seat
