@@ -1,5 +1,6 @@
 -- The words and the files ask for one plan alone, and the reading of the configuration gives it.
-use Rattle.std.specs.Prelude.{◌≡◌, ℕ, Bool, true, false, not, ◌&&◌, ◌||◌, List, [], ◌∷◌, map, nat_eq, IsTrue, Option, Some, None, Ok, Err, IfSome, refl, suc}
+use Rattle.std.specs.Prelude.{◌≡◌, ℕ, Bool, true, false, not, ◌&&◌, ◌||◌, List, [], ◌∷◌, map, nat_eq, IsTrue, Option}
+use Rattle.std.specs.Prelude.{Some, None, Ok, Err, IfSome, refl, suc}
 use Rattle.std.specs.Cmp.Lexicographic.{pointwise}
 use Rattle.std.specs.List.{All, list_any}
 use Rattle.std.proofs.Common.{sym, ap, subst, ◌∙◌, arith}
@@ -25,8 +26,10 @@ use Rattle.wd_plan.specs.declared.reason.RefusedScript.{RefusedScript}
 use Rattle.wd_plan.specs.declared.refusal.Refusal.TheVariants as refusal
 use Rattle.wd_plan.specs.Command.{Asked, command, is_serve, is_serving}
 use Rattle.wd_plan.specs.Folder.{folder}
-use Rattle.wd_plan.specs.Plan.{Plan, Refuses, Starts, Plans, AtAnswer, AtCommand, AtFile, AtKinds, AtNames, AtScripts, EmbedsPath, IsReading, at_script, may_go}
-use Rattle.wd_plan.specs.Prepare.{IsAskedBy, IsLateEnd, IsLateRefusal, OnEndFault, OnRefusedFault, end_of, fault_refusal, plan_of_end, plan_of_refusal}
+use Rattle.wd_plan.specs.Plan.{Plan, Refuses, Starts, Plans, AtAnswer, AtCommand, AtFile, AtKinds, AtNames, AtScripts}
+use Rattle.wd_plan.specs.Plan.{EmbedsPath, IsReading, at_script, may_go}
+use Rattle.wd_plan.specs.Prepare.{IsAskedBy, IsLateEnd, IsLateRefusal, OnEndFault, OnRefusedFault, end_of}
+use Rattle.wd_plan.specs.Prepare.{fault_refusal, plan_of_end, plan_of_refusal}
 use Rattle.wd_plan.specs.Starts.{FirstRefused, are_plain}
 use Rattle.wd_plan.proofs.StartSteps.{first_one}
 use Rattle.wd_ports.specs.Told.{Stored, file_at}
@@ -35,29 +38,36 @@ use Rattle.wd_ports.specs.Told.{Stored, file_at}
 pub at_started : (v : Verb) (world : Config) → FirstRefused world.services None → AtScripts v world (Starts v world)
 at_started v world h = (None, h, refl)
 
-pub at_refused : (v : Verb) (world : Config) (script : RefusedScript) → FirstRefused world.services (Some script) → AtScripts v world (Refuses (refusal.Script script))
+pub at_refused : (v : Verb) (world : Config) (script : RefusedScript) → FirstRefused world.services (Some script)
+    → AtScripts v world (Refuses (refusal.Script script))
 at_refused v world script h = (Some script, h, refl)
 
 at_scripts : (v : Verb) (world : Config) (p p' : Plan) → AtScripts v world p → AtScripts v world p' → p ≡ p'
-at_scripts v world p p' (found, first, is) (found', first', is') = is ∙ ap (at_script v world) (first_one world.services found found' first first') ∙ sym is'
+at_scripts v world p p' (found, first, is) (found', first', is') = is
+    ∙ ap (at_script v world) (first_one world.services found found' first first') ∙ sym is'
 
 at_kinds : (v : Verb) (world : Config) (go : Bool) (p p' : Plan) → AtKinds v world go p → AtKinds v world go p' → p ≡ p'
 at_kinds v world false p p' h h' = h ∙ sym h'
 at_kinds v world true p p' h h' = at_scripts v world p p' h h'
 
-at_names : (v : Verb) (config : Config) (unknown : Option GraphFault) (p p' : Plan) → AtNames v config unknown p → AtNames v config unknown p' → p ≡ p'
+at_names : (v : Verb) (config : Config) (unknown : Option GraphFault) (p p' : Plan) → AtNames v config unknown p
+    → AtNames v config unknown p' → p ≡ p'
 at_names v config (Some fault) p p' h h' = h ∙ sym h'
-at_names v config None p p' h h' = at_kinds v (linked config) (may_go v (are_plain config.services) (linked config)) p p' h h'
+at_names v config None p p' h h' = at_kinds v (linked config) (may_go v (are_plain config.services) (linked config)) p
+    p' h h'
 
 at_answer : (v : Verb) (a : Answer Config) (p p' : Plan) → AtAnswer v a p → AtAnswer v a p' → p ≡ p'
 at_answer v (Found config) p p' h h' = at_names v config (first_unknown (linked config)) p p' h h'
 at_answer v (Refused fault) p p' h h' = h ∙ sym h'
 at_answer v Untold p p' h h' = absurd h
 
-at_file : (s : Stored) (asked : Asked) (bytes : Option (List ℕ)) (p p' : Plan) → AtFile s asked bytes p → AtFile s asked bytes p' → p ≡ p'
+at_file : (s : Stored) (asked : Asked) (bytes : Option (List ℕ)) (p p' : Plan) → AtFile s asked bytes p
+    → AtFile s asked bytes p' → p ≡ p'
 at_file s asked None p p' h h' = h ∙ sym h'
 at_file s asked (Some bytes) p p' (r, of, at) (r', of', at') =
-    at_answer asked.verb r.answer p p' at (subst (λ x. AtAnswer asked.verb x.answer p') (one_answer bytes asked.constant (folder asked.config) (Some s) r' r of' of) at')
+    at_answer asked.verb r.answer p p' at
+        (subst (λ x. AtAnswer asked.verb x.answer p') (one_answer bytes asked.constant (folder asked.config) (Some s) r'
+        r of' of) at')
 
 at_command : (s : Stored) (asked : Option Asked) (p p' : Plan) → AtCommand s asked p → AtCommand s asked p' → p ≡ p'
 at_command s None p p' h h' = h ∙ sym h'
@@ -68,7 +78,8 @@ unfolding Plans
 plans_one words s p p' h h' = at_command s (command words) p p' h h'
 
 -- words that are no command line ask for their refusal
-pub no_command : (words : List (List ℕ)) (s : Stored) → command words ≡ None → Plans words s (Refuses refusal.CommandLine)
+pub no_command : (words : List (List ℕ)) (s : Stored) → command words ≡ None
+    → Plans words s (Refuses refusal.CommandLine)
 unfolding Plans
 no_command words s e = subst (λ c. AtCommand s c (Refuses refusal.CommandLine)) (sym e) refl
 
@@ -80,25 +91,34 @@ serve_asked (Some asked) v h e = ap is_serving (sym h ∙ e)
 -- ---- what was read
 
 -- what is said of an answer is the answer, where the files are told
-says_is : (bytes : List ℕ) (name : Option (List ℕ)) (place : List ℕ) (s : Stored) (r : Read Config) (x a : Answer Config) → Answers bytes name place (Some s) r → r.answer ≡ a → Says x a → a ≡ x
+says_is : (bytes : List ℕ) (name : Option (List ℕ)) (place : List ℕ) (s : Stored) (r : Read Config)
+    (x a : Answer Config) → Answers bytes name place (Some s) r → r.answer ≡ a → Says x a → a ≡ x
 says_is bytes name place s r x (Found c) of e says = says
 says_is bytes name place s r x (Refused f) of e says = says
 says_is bytes name place s r x Untold of e says = absurd (answer_told bytes name place s r of e)
 
-pub at_found : (files : Option Stored) (asked : Asked) (bytes : List ℕ) (config : Config) (plan : Option Plan) → ((r : Read Config) × IsReading files asked bytes r × Tells r (Ok config)) → IfSome plan (AtNames asked.verb config (first_unknown (linked config)))
+pub at_found : (files : Option Stored) (asked : Asked) (bytes : List ℕ) (config : Config) (plan : Option Plan)
+    → ((r : Read Config) × IsReading files asked bytes r × Tells r (Ok config))
+    → IfSome plan (AtNames asked.verb config (first_unknown (linked config)))
     → IfSome files (λ s. IfSome plan (AtFile s asked (Some bytes)))
 at_found None asked bytes config plan reads is = tt
 at_found (Some s) asked bytes config None reads is = tt
 at_found (Some s) asked bytes config (Some p) (r, of, says) is =
-    let found : r.answer ≡ Found config = says_is bytes asked.constant (folder asked.config) s r (Found config) r.answer of refl says in
+    let found : r.answer ≡ Found config = says_is bytes asked.constant (folder asked.config) s r (Found config) r.answer
+        of refl says in
     (r, of, subst (λ a. AtAnswer asked.verb a p) (sym found) is)
 
-says_refused : (s : Stored) (asked : Asked) (bytes : List ℕ) (r : Read Config) (f : ConfigFault) → IsReading (Some s) asked bytes r → Says (Refused f) r.answer → AtAnswer asked.verb r.answer (Refuses (refusal.Config f))
+says_refused : (s : Stored) (asked : Asked) (bytes : List ℕ) (r : Read Config) (f : ConfigFault)
+    → IsReading (Some s) asked bytes r → Says (Refused f) r.answer
+    → AtAnswer asked.verb r.answer (Refuses (refusal.Config f))
 says_refused s asked bytes r f of says =
-    let found : r.answer ≡ Refused f = says_is bytes asked.constant (folder asked.config) s r (Refused f) r.answer of refl says in
+    let found : r.answer ≡ Refused f = says_is bytes asked.constant (folder asked.config) s r (Refused f) r.answer of
+        refl says in
     subst (λ a. AtAnswer asked.verb a (Refuses (refusal.Config f))) (sym found) refl
 
-at_kind : (files : Stored) (asked : Asked) (bytes : List ℕ) (r : Read Config) (f : ConfigFault) (k : ConfigKind) → IsReading (Some files) asked bytes r → TellsFault r f k → IfSome (plan_of_refusal (fault_refusal k f)) (AtFile files asked (Some bytes))
+at_kind : (files : Stored) (asked : Asked) (bytes : List ℕ) (r : Read Config) (f : ConfigFault) (k : ConfigKind)
+    → IsReading (Some files) asked bytes r → TellsFault r f k
+    → IfSome (plan_of_refusal (fault_refusal k f)) (AtFile files asked (Some bytes))
 at_kind files asked bytes r f (kind.Text k) of says = (r, of, says_refused files asked bytes r f of says)
 at_kind files asked bytes r f kind.EmbedFault of says = tt
 at_kind files asked bytes r f kind.NoSuchConst of says = (r, of, says_refused files asked bytes r f of says)
@@ -114,12 +134,16 @@ at_kind files asked bytes r f kind.BadAddress of says = (r, of, says_refused fil
 at_kind files asked bytes r f kind.BadRange of says = (r, of, says_refused files asked bytes r f of says)
 at_kind files asked bytes r f kind.NoScript of says = (r, of, says_refused files asked bytes r f of says)
 
-pub at_end : (files : Option Stored) (asked : Asked) (bytes : List ℕ) (e : ConfigEnd) → Answered bytes asked.constant (folder asked.config) files (Err e) → IfSome files (λ s. IfSome (plan_of_end (end_of e)) (AtFile s asked (Some bytes)))
+pub at_end : (files : Option Stored) (asked : Asked) (bytes : List ℕ) (e : ConfigEnd)
+    → Answered bytes asked.constant (folder asked.config) files (Err e)
+    → IfSome files (λ s. IfSome (plan_of_end (end_of e)) (AtFile s asked (Some bytes)))
 at_end None asked bytes e reads = tt
 at_end (Some s) asked bytes (end.Fault f) (r, of, says) = at_kind s asked bytes r f f.kind of says
 at_end (Some s) asked bytes end.NoMemory reads = tt
 
-path_kind : (files : Option Stored) (asked : Asked) (bytes : List ℕ) (r : Read Config) (f : ConfigFault) (k : ConfigKind) → IsReading files asked bytes r → TellsFault r f k → OnRefusedFault (fault_refusal k f) (EmbedsPath files asked bytes)
+path_kind : (files : Option Stored) (asked : Asked) (bytes : List ℕ) (r : Read Config) (f : ConfigFault)
+    (k : ConfigKind) → IsReading files asked bytes r → TellsFault r f k
+    → OnRefusedFault (fault_refusal k f) (EmbedsPath files asked bytes)
 path_kind files asked bytes r f (kind.Text k) of says = tt
 path_kind files asked bytes r f kind.EmbedFault of says = (r, of, (f.place, says))
 path_kind files asked bytes r f kind.NoSuchConst of says = tt
@@ -136,11 +160,14 @@ path_kind files asked bytes r f kind.BadRange of says = tt
 path_kind files asked bytes r f kind.NoScript of says = tt
 
 -- an embed that could not be read is one that the reading comes to
-pub end_path : (files : Option Stored) (asked : Asked) (bytes : List ℕ) (e : ConfigEnd) → Answered bytes asked.constant (folder asked.config) files (Err e) → OnEndFault (end_of e) (EmbedsPath files asked bytes)
+pub end_path : (files : Option Stored) (asked : Asked) (bytes : List ℕ) (e : ConfigEnd)
+    → Answered bytes asked.constant (folder asked.config) files (Err e)
+    → OnEndFault (end_of e) (EmbedsPath files asked bytes)
 end_path files asked bytes (end.Fault f) (r, of, says) = path_kind files asked bytes r f f.kind of says
 end_path files asked bytes end.NoMemory reads = tt
 
-rose_kind : (f : ConfigFault) (k : ConfigKind) (rose : Type 0) → (k ≡ kind.EmbedFault → rose) → OnRefusedFault (fault_refusal k f) (λ path. rose)
+rose_kind : (f : ConfigFault) (k : ConfigKind) (rose : Type 0) → (k ≡ kind.EmbedFault → rose)
+    → OnRefusedFault (fault_refusal k f) (λ path. rose)
 rose_kind f (kind.Text k) rose h = tt
 rose_kind f kind.EmbedFault rose h = h refl
 rose_kind f kind.NoSuchConst rose h = tt
@@ -156,7 +183,8 @@ rose_kind f kind.BadAddress rose h = tt
 rose_kind f kind.BadRange rose h = tt
 rose_kind f kind.NoScript rose h = tt
 
-pub end_rose : (e : ConfigEnd) (rose : Type 0) → (IsEmbedFault {A = Config} (Err e) → rose) → OnEndFault (end_of e) (λ path. rose)
+pub end_rose : (e : ConfigEnd) (rose : Type 0) → (IsEmbedFault {A = Config} (Err e) → rose)
+    → OnEndFault (end_of e) (λ path. rose)
 end_rose (end.Fault f) rose h = rose_kind f f.kind rose h
 end_rose end.NoMemory rose h = tt
 
@@ -194,10 +222,14 @@ not_and : (a b : Bool) → a ≡ false → b ≡ true → (not a && b) ≡ true
 not_and true b ea eb = absurd (false≢true (sym ea))
 not_and false b ea eb = eb
 
-other_name : (n : List ℕ) (services : List Service) → All (λ m. m ≡ n → ⊥) (map (λ s. s.name) services) → has_name services n ≡ false
+other_name : (n : List ℕ) (services : List Service) → All (λ m. m ≡ n → ⊥) (map (λ s. s.name) services)
+    → has_name services n ≡ false
 other_name n [] h = refl
-other_name n (s ∷ rest) h = or_false (same_name s.name n) (has_name rest n) (not_same s.name n (h 0 [] (omega arith)) (same_name s.name n) refl) (other_name n rest (λ k d l. h (suc k) d (omega arith)))
+other_name n (s ∷ rest) h =
+    or_false (same_name s.name n) (has_name rest n) (not_same s.name n (h 0 [] (omega arith)) (same_name s.name n) refl)
+    (other_name n rest (λ k d l. h (suc k) d (omega arith)))
 
 pub names_differ : (services : List Service) → Differ (map (λ s. s.name) services) → IsTrue (differ_test services)
 names_differ [] h = refl
-names_differ (s ∷ rest) h = not_and (has_name rest s.name) (differ_test rest) (other_name s.name rest h.0) (names_differ rest h.1)
+names_differ (s ∷ rest) h = not_and (has_name rest s.name) (differ_test rest) (other_name s.name rest h.0)
+    (names_differ rest h.1)

@@ -1,5 +1,6 @@
 -- What the words of a command line ask for.
-use Rattle.std.specs.Prelude.{ℕ, Bool, true, false, not, ◌&&◌, ◌||◌, List, [], ◌∷◌, Option, Some, None, codes, bytes_eq, nat_eq, if◌then◌else◌}
+use Rattle.std.specs.Prelude.{ℕ, Bool, true, false, not, ◌&&◌, ◌||◌, List, [], ◌∷◌, Option, Some, None, codes, bytes_eq}
+use Rattle.std.specs.Prelude.{nat_eq, if◌then◌else◌}
 use Rattle.std.specs.List.{starts_with}
 use Rattle.std.specs.Option.{option_map}
 use Rattle.wd_plan.specs.declared.command.CommandLine.{CommandLine}
@@ -18,7 +19,8 @@ asked_of c = record { verb = c.verb; config = c.config.now; constant = option_ma
 
 -- the verb that a word is
 abbrev pub verb_of : List ℕ → Option Verb
-verb_of word = if bytes_eq word (codes "serve") then Some verb.Serve else (if bytes_eq word (codes "check") then Some verb.Check else None)
+verb_of word = if bytes_eq word (codes "serve") then Some verb.Serve else
+    (if bytes_eq word (codes "check") then Some verb.Check else None)
 
 -- the word is no option: it is `-`, or does not begin with it
 abbrev pub is_positional : List ℕ → Bool
@@ -32,7 +34,8 @@ may_stand (Some word) = is_positional word
 -- a verb with its positional words
 abbrev pub asked : Option Verb → List ℕ → Option (List ℕ) → Option Asked
 asked None config constant = None
-asked (Some v) config constant = if is_positional config && may_stand constant then Some (record { verb = v; config = config; constant = constant }) else None
+asked (Some v) config constant = if is_positional config
+    && may_stand constant then Some (record { verb = v; config = config; constant = constant }) else None
 
 -- the words are the number of threads, and it is one
 abbrev pub is_one_thread : List ℕ → List ℕ → Bool
@@ -40,9 +43,11 @@ is_one_thread option value = bytes_eq option (codes "--threads") && bytes_eq val
 
 -- the verb that may have a number of threads
 abbrev pub with_threads : List ℕ → List ℕ → List ℕ → Option Verb
-with_threads word option value = if bytes_eq word (codes "serve") && is_one_thread option value then Some verb.Serve else None
+with_threads word option value = if bytes_eq word (codes "serve") && is_one_thread option value then Some verb.Serve
+    else None
 
--- the command that the words are: a verb, the configuration, perhaps the constant, and behind them perhaps the number of threads; any other words are none
+-- the command that the words are: a verb, the configuration, perhaps the constant, and
+-- behind them perhaps the number of threads; any other words are none
 abbrev pub command : List (List ℕ) → Option Asked
 command (v ∷ config ∷ []) = asked (verb_of v) config None
 command (v ∷ config ∷ constant ∷ []) = asked (verb_of v) config (Some constant)

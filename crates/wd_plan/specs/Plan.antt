@@ -38,7 +38,8 @@ at_script v world (Some script) = Refuses (refusal.Script script)
 
 -- at the scripts of a world
 abbrev pub AtScripts : Verb → Config → Plan → Type 0
-AtScripts v world plan = (found : Option RefusedScript) × FirstRefused world.services found × (plan ≡ at_script v world found)
+AtScripts v world plan = (found : Option RefusedScript) × FirstRefused world.services found
+    × (plan ≡ at_script v world found)
 
 -- at the kinds of its services
 abbrev pub AtKinds : Verb → Config → Bool → Plan → Type 0
@@ -63,7 +64,8 @@ IsReading files asked bytes r = Answers bytes asked.constant (folder asked.confi
 -- at the configuration's file
 abbrev pub AtFile : Stored → Asked → Option (List ℕ) → Plan → Type 0
 AtFile files asked None plan = plan ≡ Refuses (refusal.MissingFile asked.config)
-AtFile files asked (Some bytes) plan = (r : Read Config) × IsReading (Some files) asked bytes r × AtAnswer asked.verb r.answer plan
+AtFile files asked (Some bytes) plan = (r : Read Config) × IsReading (Some files) asked bytes r
+    × AtAnswer asked.verb r.answer plan
 
 -- at the command
 -- (the plan of a parsed command line: refused where there is none; else what its configuration asks for)
@@ -85,7 +87,8 @@ EmbedsPath files asked bytes path = (r : Read Config) × IsReading files asked b
 
 -- a file that is embedded in the configuration of a command
 abbrev pub IsEmbedded : Option Stored → Asked → List ℕ → Type 0
-IsEmbedded files asked path = (bytes : List ℕ) × IfSome files (λ s. file_at s asked.config ≡ Some bytes) × EmbedsPath files asked bytes path
+IsEmbedded files asked path = (bytes : List ℕ) × IfSome files (λ s. file_at s asked.config ≡ Some bytes)
+    × EmbedsPath files asked bytes path
 
 -- a file that is read for a command: its configuration, or one that this embeds
 abbrev pub IsReadFor : Option Stored → Asked → List ℕ → Type 0

@@ -53,7 +53,8 @@ kind_text kind.NoScript = codes "NoScript"
 
 -- what is printed of a fault of the configuration: its kind, place and name
 unfoldable pub config_text : ConfigFault → List ℕ
-config_text fault = codes "error: config " ++ (kind_text fault.kind ++ codes " at ") ++ decimal fault.place ++ codes ": " ++ fault.name ++ line_end
+config_text fault = codes "error: config " ++ (kind_text fault.kind ++ codes " at ") ++ decimal fault.place
+    ++ codes ": " ++ fault.name ++ line_end
 
 -- what is printed of a name that no service has: where it is named, and the name
 unfoldable pub link_text : GraphFault → List ℕ

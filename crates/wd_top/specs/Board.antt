@@ -1,19 +1,26 @@
 -- The journal that a board keeps, beside the machine's state.
-use Rattle.std.specs.Prelude.{◌≡◌, ℕ, ◌+◌, Bool, true, false, List, [], ◌∷◌, ◌++◌, length, Option, Some, None, Result, Ok, Err}
+use Rattle.std.specs.Prelude.{◌≡◌, ℕ, ◌+◌, Bool, true, false, List, [], ◌∷◌, ◌++◌, length, Option, Some, None, Result}
+use Rattle.std.specs.Prelude.{Ok, Err}
 use Rattle.wd_base.specs.declared.config.Config.{Config}
 use Rattle.wd_base.specs.declared.http.Reply.{Reply}
+use Rattle.wd_base.specs.declared.http.ReqData.{ReqData}
+use Rattle.wd_base.specs.declared.ids.LinkNo.{LinkNo}
 use Rattle.wd_base.specs.declared.ids.NoMemory.{NoMemory}
 use Rattle.wd_base.specs.declared.ids.Req.{Req}
 use Rattle.wd_base.specs.declared.ids.Seat.{Seat}
+use Rattle.wd_base.specs.declared.objects.Origin.TheVariants.{Outside}
+use Rattle.wd_graph.specs.Links.{first_unknown}
 use Rattle.wd_machine.specs.declared.journal.Entry.{Entry}
-use Rattle.wd_machine.specs.declared.journal.Entry.TheVariants.{Turn}
+use Rattle.wd_machine.specs.declared.journal.Entry.TheVariants.{Arrive, Turn}
 use Rattle.wd_machine.specs.declared.turn.Out.{Out}
 use Rattle.wd_machine.specs.declared.journal.Head.TheVariants.{Whole}
 use Rattle.wd_machine.specs.declared.state.RequestState.{RequestState}
 use Rattle.wd_machine.specs.declared.state.State.{State}
 use Rattle.wd_machine.specs.declared.state.WorkerState.{WorkerState}
+use Rattle.wd_machine.specs.Found.{request_of, worker_for}
 use Rattle.wd_machine.specs.Meaning.{Meaning}
 use Rattle.wd_machine.specs.Runs.{legal, after}
+use Rattle.wd_machine.specs.Steps.{arrived, turn_out}
 use Rattle.wd_top.specs.declared.board.Answer.{Answer}
 use Rattle.wd_top.specs.Talk.{IsNumbered, arrival_count, IsOfSeat}
 
@@ -60,7 +67,8 @@ pub record Rests {I : Type 0} (s : State I) (n : ℕ) : Type 0 where
   pub idle : AreIdle s.workers
 
 -- the state is that after the entries, and at rest
-pub record Stands {I : Type 0} (m : Meaning I) (world : Config) (s : State I) (entries : List Entry) (n : ℕ) : Type 0 where
+pub record Stands {I : Type 0} (m : Meaning I) (world : Config) (s : State I) (entries : List Entry) (n : ℕ) :
+    Type 0 where
   pub state : s ≡ after m world entries
   pub rests : Rests s n
   pub count : n ≡ arrival_count entries
@@ -79,3 +87,21 @@ EndsToo (Err e) old new = Unit {0}
 abbrev pub Ends : Req → Option Out → List Entry → List Entry → Option Reply → Type 0
 Ends q None old new reply = (new ≡ old) × (reply ≡ None)
 Ends q (Some out) old new reply = (new ≡ old ++ Turn the_seat q out ∷ []) × (reply ≡ out.reply)
+
+-- the entries are a legal journal over a linked world; and unless memory ran out, the machine
+-- stands as it is after them, and where no request was left each has ended
+abbrev pub IsKept : {I : Type 0} → Meaning I → Config → State I → List Entry → ℕ → Bool → Bool → Type 0
+IsKept m world s entries count lingers stopped = IsRun m world entries × (first_unknown world ≡ None)
+    × (stopped ≡ false → Stands m world s entries count) × (stopped ≡ false → lingers ≡ false → AreEnded s.requests)
+
+-- the entry of a request that comes to a service over a link of the board's seat
+abbrev pub arrival : Req → List ℕ → LinkNo → ReqData → Entry
+arrival q service link request = Arrive the_seat q service (Outside link) 1000 request
+
+-- the state once such a request has come
+abbrev pub with_arrival : {I : Type 0} → State I → Req → List ℕ → LinkNo → ReqData → State I
+with_arrival s q service link request = arrived s the_seat q service (Outside link) 1000 request
+
+-- what the turn of this request gives, where it runs
+abbrev pub out_of : {I : Type 0} → State I → Req → Option Out
+out_of s q = turn_out (request_of q.0 s.requests) (worker_for (request_of q.0 s.requests) s.workers)

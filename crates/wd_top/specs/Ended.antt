@@ -1,5 +1,6 @@
 -- How a call ends: what holds of its ports, its journal and its status.
-use Rattle.std.specs.Prelude.{◌≡◌, ◌⊎◌, ℕ, ◌<◌, ◌≤◌, take, true, List, [], length, Option, Some, None, Result, Ok, Err, IfSome, slice_get}
+use Rattle.std.specs.Prelude.{◌≡◌, ◌⊎◌, ℕ, ◌<◌, ◌≤◌, take, true, List, [], length, Option, Some, None, Result, Ok, Err}
+use Rattle.std.specs.Prelude.{IfSome, slice_get}
 use Rattle.wd_base.specs.declared.config.Addr.{Addr}
 use Rattle.wd_base.specs.declared.config.Config.{Config}
 use Rattle.wd_base.specs.declared.ids.LinkNo.{LinkNo}
@@ -57,12 +58,15 @@ pub record IsDone (world : Config) (t : Told) (gone : LinkNo → Type 0) (entrie
 -- what each outcome says of a port, whose count began at 0
 abbrev pub OutcomeHolds : Config → Outcome → Told → (LinkNo → Type 0) → Faults → List Entry → Type 0
 OutcomeHolds world outcome.Done t gone f entries = IsDone world t gone entries
-OutcomeHolds world (outcome.NoListen address) t gone f entries = (0 < part Listen f) × (next_address (addresses world.sockets) t ≡ Some address)
+OutcomeHolds world (outcome.NoListen address) t gone f entries = (0 < part Listen f)
+    × (next_address (addresses world.sockets) t ≡ Some address)
 OutcomeHolds world outcome.NoMemory t gone f entries = Unit {0}
 OutcomeHolds world _ t gone f entries = ⊥
 
--- what holds of a port: at every outcome it listens at the first of the world's sockets and at nothing else, and its links carry its part of the journal
-pub record Holds (world : Config) (o : Outcome) (t : Told) (gone : LinkNo → Type 0) (f : Faults) (entries : List Entry) : Type 0 where
+-- what holds of a port: at every outcome it listens at the first of the world's sockets and
+-- at nothing else, and its links carry its part of the journal
+pub record Holds (world : Config) (o : Outcome) (t : Told) (gone : LinkNo → Type 0) (f : Faults)
+    (entries : List Entry) : Type 0 where
   pub sockets : IsFront t.sockets (addresses world.sockets)
   pub session : IfSome t.links (Session world.sockets entries)
   pub outcome : OutcomeHolds world o t gone f entries
@@ -99,7 +103,8 @@ abbrev pub NoPortMade : Outcome → Type 0
 NoPortMade (outcome.NoPort seat) = Unit {0}
 NoPortMade _ = ⊥
 
--- what a call is given, and what failed in it: its words, the told files, whether a read of them failed, and whether the maker did
+-- what a call is given, and what failed in it: its words, the told files, whether a read of
+-- them failed, and whether the maker did
 pub record Call : Type 1 where
   pub words : List (List ℕ)
   pub files : Option Stored
@@ -126,7 +131,8 @@ RefusedFor call why = Asks call (Refuses why)
 -- the cause of each outcome
 abbrev pub Caused : Call → Config → Outcome → Type 0
 Caused call world outcome.Done = Asks call (Starts verb.Serve world)
-Caused call world (outcome.Checked services sockets) = Asks call (Starts verb.Check world) × (services ≡ length world.services) × (sockets ≡ length world.sockets)
+Caused call world (outcome.Checked services sockets) = Asks call (Starts verb.Check world)
+    × (services ≡ length world.services) × (sockets ≡ length world.sockets)
 Caused call world (outcome.Refused why) = RefusedFor call why
 Caused call world (outcome.NoPort seat) = (seat.0 ≡ 0) × Asks call (Starts verb.Serve world) × call.maker_failed
 Caused call world (outcome.NoListen address) = Asks call (Starts verb.Serve world)
@@ -147,10 +153,11 @@ pub record EndsOffline (call : Call) (printed : Printed) (status : ℕ) : Type 0
 abbrev pub IsEmpty : Journal → ℕ → Type 0
 IsEmpty journal ports = (journal.entries ≡ []) × (ports ≡ 0)
 
--- What a session leaves: a whole journal of seat 0 that is a legal run of the world, one port where one was made, and what
--- holds of it. Where a port could not be had, no request has arrived, and at the end each has ended. A world without sockets
--- makes no port, and its session is empty.
-pub record Ran (world : Config) (maker_failed : Type 0) (o : Outcome) (journal : Journal) (ports : ℕ) (at_ports : Type 0) : Type 0 where
+-- What a session leaves: a whole journal of seat 0 that is a legal run of the world, one port where one was made, and
+-- what holds of it. Where a port could not be had, no request has arrived, and at the end each has ended. A world
+-- without sockets makes no port, and its session is empty.
+pub record Ran (world : Config) (maker_failed : Type 0) (o : Outcome) (journal : Journal) (ports : ℕ)
+    (at_ports : Type 0) : Type 0 where
   pub end : IsSessionEnd o
   pub whole : journal.head ≡ Whole
   pub run : legal constant_means world journal ≡ true
@@ -163,10 +170,10 @@ pub record Ran (world : Config) (maker_failed : Type 0) (o : Outcome) (journal :
   pub none : NoPortMade o → (ports ≡ 0) × maker_failed
   pub at : at_ports
 
--- An outcome with its cause, and what it leaves: a whole journal of seat 0 that is a legal run of the world, one port where
--- one was made, and what holds of it. An outcome without a session leaves nothing, and where a port could not be had no
--- request has arrived; where the session is done each has ended. A world without sockets makes no port, and its session is
--- empty. At want of memory the world is the one that is asked for, where there was a session.
+-- An outcome with its cause, and what it leaves: a whole journal of seat 0 that is a legal run of the world, one port
+-- where one was made, and what holds of it. An outcome without a session leaves nothing, and where a port could not be
+-- had no request has arrived; where the session is done each has ended. A world without sockets makes no port, and its
+-- session is empty. At want of memory the world is the one that is asked for, where there was a session.
 pub record Comes (call : Call) (o : Outcome) (journal : Journal) (ports : ℕ) (at_ports : Config → Type 0) : Type 0 where
   pub world : Config
   pub caused : Caused call world o
@@ -182,7 +189,8 @@ pub record Comes (call : Call) (o : Outcome) (journal : Journal) (ports : ℕ) (
   pub at : at_ports world
 
 -- how a call ended: its outcome, and what was printed of it
-pub record Ends (call : Call) (printed : Printed) (status : ℕ) (journal : Journal) (ports : ℕ) (at_ports : Outcome → Config → Type 0) : Type 0 where
+pub record Ends (call : Call) (printed : Printed) (status : ℕ) (journal : Journal) (ports : ℕ) (at_ports : Outcome
+    → Config → Type 0) : Type 0 where
   pub outcome : Outcome
   pub comes : Comes call outcome journal ports (at_ports outcome)
   pub reports : Reports outcome status printed.before printed.after printed.failures_before printed.failures_after
@@ -195,4 +203,5 @@ status_for (Starts verb.Serve world) status = (status ≡ 0) ⊎ (status ≡ 7)
 
 -- each status comes where its cause is, but for 5 where a read failed, 4 where the sink failed, and 9
 abbrev pub IsStatus : List (List ℕ) → Stored → Type 0 → Type 0 → ℕ → Type 0
-IsStatus words files read_rose sink_rose status = (plan : Plan) → Plans words files plan → status_for plan status ⊎ (((status ≡ 5) × read_rose) ⊎ (((status ≡ 4) × sink_rose) ⊎ (status ≡ 9)))
+IsStatus words files read_rose sink_rose status = (plan : Plan) → Plans words files plan → status_for plan status
+    ⊎ (((status ≡ 5) × read_rose) ⊎ (((status ≡ 4) × sink_rose) ⊎ (status ≡ 9)))

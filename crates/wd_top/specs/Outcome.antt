@@ -39,8 +39,14 @@ text_of (outcome.NoPort seat) = port_text seat
 text_of (outcome.NoListen address) = listen_text address
 text_of outcome.NoMemory = []
 
--- the front of the outcome's text was printed: all of it, and then the status is the outcome's, or else 4, where the sink's count rose, or 9
+-- the front of the outcome's text was printed: all of it, and then the status is the
+-- outcome's, or else 4, where the sink's count rose, or 9
 pub record Reports (o : Outcome) (status : ℕ) (held held' : Option (List ℕ)) (count count' : ℕ) : Type 0 where
   pub printed : ℕ
   pub tells : held' ≡ with_bytes (take printed (text_of o)) held
-  pub which : ((status ≡ status_of o) × (printed ≡ length (text_of o))) ⊎ (((status ≡ 4) × Rose count count') ⊎ (status ≡ 9))
+  pub which : ((status ≡ status_of o) × (printed ≡ length (text_of o)))
+      ⊎ (((status ≡ 4) × Rose count count') ⊎ (status ≡ 9))
+
+-- the same of a sink, by what it holds and how often it failed
+abbrev pub ReportsTo : {K : Type 0} → (K → Option (List ℕ)) → (K → ℕ) → K → K → Outcome → ℕ → Type 0
+ReportsTo held failures out out' o status = Reports o status (held out) (held out') (failures out) (failures out')

@@ -1,5 +1,6 @@
 -- A session: what the links of a port carry, by the journal.
-use Rattle.std.specs.Prelude.{◌≡◌, ◌⊎◌, ℕ, ◌<◌, ◌+◌, Bool, true, false, List, [], ◌∷◌, ◌++◌, map, length, take, Option, Some, None, IfSome, IsSome, slice_index_or, bytes_eq, codes}
+use Rattle.std.specs.Prelude.{◌≡◌, ◌⊎◌, ℕ, ◌<◌, ◌+◌, Bool, true, false, List, [], ◌∷◌, ◌++◌, map, length, take, Option}
+use Rattle.std.specs.Prelude.{Some, None, IfSome, IsSome, slice_index_or, bytes_eq, codes}
 use Rattle.wd_base.specs.declared.ids.LinkNo.{LinkNo}
 use Rattle.wd_base.specs.declared.ids.SockNo.{SockNo}
 use Rattle.wd_base.specs.declared.config.Socket.{Socket}
@@ -8,7 +9,7 @@ use Rattle.wd_base.specs.declared.http.Reply.{Reply}
 use Rattle.wd_ports.specs.declared.told.LinkState.{LinkState}
 use Rattle.wd_ports.specs.declared.told.LinkOrigin.{LinkOrigin}
 use Rattle.wd_ports.specs.declared.told.LinkOrigin.TheVariants.{Socket as AtSocket, Peer}
-use Rattle.wd_ports.specs.Told.{blank}
+use Rattle.wd_ports.specs.Told.{Told, blank}
 use Rattle.wd_machine.specs.declared.journal.Entry.{Entry}
 use Rattle.http_in.specs.Stream.{Requests, ReadsAll, closing, IsFault, RequestsOf}
 use Rattle.http_text.specs.ReplyText.{reply_text, bad_reply}
@@ -99,11 +100,17 @@ IsOutside count n = (n ≡ 0) ⊎ (count < n)
 
 -- the links of seat 0 carry its part of the journal, and no request came over another link
 pub record Session (sockets : List Socket) (journal : List Entry) (links : List LinkState) : Type 0 where
-  pub each : (i : ℕ) → i < length links → CarriesFrom sockets (link_at links i).origin (link_at links i) (talk 0 (i + 1) journal)
+  pub each : (i : ℕ) → i < length links
+      → CarriesFrom sockets (link_at links i).origin (link_at links i) (talk 0 (i + 1) journal)
   pub turns : (n : ℕ) → TakesTurns 0 n journal
   pub others : (n : ℕ) → IsOutside (length links) n → talk 0 n journal ≡ no_talk
 
 -- each link was shut just once, and one that is not gone carries just its line
 abbrev pub Done : List Socket → (LinkNo → Type 0) → List Entry → List LinkState → Type 0
 Done sockets gone journal links = (i : ℕ) → i < length links
-    → ((link_at links i).shuts ≡ 1) × ((gone (number i) → ⊥) → WholeFrom sockets (link_at links i).origin (link_at links i) (talk 0 (i + 1) journal))
+    → ((link_at links i).shuts ≡ 1) × ((gone (number i) → ⊥)
+        → WholeFrom sockets (link_at links i).origin (link_at links i) (talk 0 (i + 1) journal))
+
+-- the same of each link that is told
+abbrev pub AreDone : List Socket → Told → (LinkNo → Type 0) → List Entry → Type 0
+AreDone sockets told gone journal = IfSome told.links (Done sockets gone journal)

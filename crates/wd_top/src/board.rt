@@ -1,15 +1,16 @@
-ghost use Rattle.std.specs.Prelude.{◌≡◌, ℕ, ◌+◌, ◌<◌, [], ◌∷◌, ◌++◌, length, true, false, None, Some, IfOk, OnOk, OnErr, IsTrue, is_some};
+ghost use Rattle.std.specs.Prelude.{◌≡◌, ℕ, ◌+◌, ◌<◌, [], ◌∷◌, ◌++◌, length, true, false, None, Some};
+ghost use Rattle.std.specs.Prelude.{IfOk, OnOk, OnErr, IsTrue, is_some};
 ghost use Rattle.std.specs.List.{position_from};
-ghost use Rattle.wd_base.specs.declared.objects.Origin.TheVariants.{Outside};
 ghost use Rattle.wd_graph.specs.Links.{first_unknown};
 ghost use Rattle.wd_graph.specs.Names.{service_of, is_public};
 ghost use Rattle.wd_machine.specs.declared.journal.Entry.{Entry as EntryIs};
 ghost use Rattle.wd_machine.specs.declared.journal.Head.{Head as HeadIs};
 ghost use Rattle.wd_machine.specs.First.{AreFirst};
-ghost use Rattle.wd_machine.specs.Found.{ArePlaces, is_worker, request_of, worker_for};
+ghost use Rattle.wd_machine.specs.Found.{ArePlaces, is_worker, request_of};
 ghost use Rattle.wd_machine.specs.Runs.{legal};
-ghost use Rattle.wd_machine.specs.Steps.{arrived, begun, turned, turn_out};
+ghost use Rattle.wd_machine.specs.Steps.{begun, turned};
 ghost use Rattle.wd_top.specs.Board.{the_seat, IsRun, Stands, Ends, IsOver, EndsToo, has_ended, reply_in};
+ghost use Rattle.wd_top.specs.Board.{arrival, out_of, with_arrival};
 ghost use Rattle.wd_top.specs.Session.{service_at};
 ghost use Rattle.wd_top.specs.Steps.{Answers};
 
@@ -52,17 +53,16 @@ struct Answer {
 }
 
 impl<I: Isolate> Model for Board<I> {
-    ghost use Rattle.std.specs.Prelude.{◌≡◌, List, false, None};
+    ghost use Rattle.std.specs.Prelude.{List};
     ghost use Rattle.wd_base.specs.declared.config.Config.{Config};
-    ghost use Rattle.wd_graph.specs.Links.{first_unknown};
     ghost use Rattle.wd_machine.specs.declared.journal.Entry.{Entry};
-    ghost use Rattle.wd_top.specs.Board.{AreEnded, IsRun, Stands};
+    ghost use Rattle.wd_top.specs.Board.{IsKept};
 
     ghost Value = { Config × List Entry };
 
     ghost view = { λ b. (b.world, b.entries) };
 
-    ghost invariant = { λ b. IsRun I.means b.world b.entries × (first_unknown b.world ≡ None) × (b.stopped ≡ false → Stands I.means b.world b.machine b.entries b.count) × (b.stopped ≡ false → b.lingers ≡ false → AreEnded b.machine.requests) };
+    ghost invariant = { λ b. IsKept I.means b.world b.machine b.entries b.count b.lingers b.stopped };
 }
 
 /// The name of the service that answers at a socket.
@@ -87,8 +87,8 @@ fn arrive<I>(
     request: ReqData,
 ) -> Result<(), NoMemory>
     requires { position_from (is_worker service.now) 0 machine.old.workers ≡ worker }
-    ensures state { OnOk result (machine.new ≡ arrived machine.old the_seat req service.now (Outside link) 1000 request) }
-    ensures entries { OnOk result (entries.new ≡ entries.old ++ EntryIs.Arrive the_seat req service.now (Outside link) 1000 request ∷ []) }
+    ensures state { OnOk result (machine.new ≡ with_arrival machine.old req service.now link request) }
+    ensures entries { OnOk result (entries.new ≡ entries.old ++ arrival req service.now link request ∷ []) }
     ensures err { OnErr result (entries.new ≡ entries.old) }
 {
     let entry = Entry::Arrive {
@@ -139,7 +139,7 @@ fn finish<I: Isolate>(
 ) -> Result<Option<Reply>, NoMemory>
     requires { ArePlaces machine.old.workers machine.old.requests places }
     ensures state { OnOk result (machine.new ≡ turned machine.old the_seat places.req) }
-    ensures entries { IfOk result (λ reply. Ends places.req (turn_out (request_of places.req.0 machine.old.requests) (worker_for (request_of places.req.0 machine.old.requests) machine.old.workers)) entries.old entries.new reply) }
+    ensures entries { IfOk result (Ends places.req (out_of machine.old places.req) entries.old entries.new) }
     ensures err { OnErr result (entries.new ≡ entries.old) }
 {
     let Some(out) = machine.turn(places, Seat(0))? else {

@@ -1,9 +1,11 @@
-ghost use Rattle.std.specs.Prelude.{◌≡◌, ◌<◌, ◌≤◌, [], ◌∷◌, ◌++◌, length, vec_len, vec_capacity, IfErr, IfSome, OnOk, All};
+ghost use Rattle.std.specs.Prelude.{◌≡◌, ◌<◌, ◌≤◌, [], ◌∷◌, ◌++◌, length, vec_len, vec_capacity};
 ghost use Rattle.wd_ports.specs.Faults.{Rose};
 ghost use Rattle.wd_ports.specs.Told.{IsNewPort};
 ghost use Rattle.wd_top.specs.declared.outcome.Outcome.TheVariants as outcome;
 ghost use Rattle.wd_top.specs.Board.{IsOver};
-ghost use Rattle.wd_top.specs.Ended.{IsFront, Listens, IsListenEnd, Holds, HasPort, IsSessionEnd, IsPortFault, NoPortMade};
+ghost use Rattle.wd_top.specs.Calls.{AtPorts, KeepFiles};
+ghost use Rattle.wd_top.specs.Ended.{HasPort, Holds, IsFront, IsListenEnd, IsPortFault, IsSessionEnd};
+ghost use Rattle.wd_top.specs.Ended.{Listens, NoPortMade};
 ghost use Rattle.wd_top.specs.Table.{addresses, SameFiles};
 
 use crate::board::Board;
@@ -90,14 +92,15 @@ pub fn run_ports<R: Wait, M: Maker, I: Isolate>(
 ) -> Outcome
     requires ports { ports.old.items ≡ [] }
     requires journal { board.old.1 ≡ [] }
-    ensures ports { All (λ p. Holds board.old.0 result (M.Port.Files.told p) (M.Port.Files.gone p) (M.Port.Files.faults p) board.new.1) ports.new.items }
+    ensures ports { AtPorts M.Port.Files.told M.Port.Files.gone M.Port.Files.faults ports.new.items
+        board.new.1 result board.old.0 }
     ensures one { HasPort result → 0 < length board.old.0.sockets → length ports.new.items ≡ 1 }
     ensures idle { board.old.0.sockets ≡ [] → (ports.new.items ≡ []) × (board.new.1 ≡ []) }
     ensures none { NoPortMade result → (ports.new.items ≡ []) × Rose (M.failures maker.old) (M.failures maker.new) }
     ensures few { length ports.new.items ≤ 1 }
     ensures over { result ≡ outcome.Done → IsOver I.means board.new.0 board.new.1 }
     ensures unused { IsPortFault result → board.new.1 ≡ [] }
-    ensures files { All (λ p. IfSome (M.plan maker.old (record { 0 = 0 })) (λ t. SameFiles t (M.Port.Files.told p))) ports.new.items }
+    ensures files { KeepFiles M.plan maker.old M.Port.Files.told ports.new.items }
     ensures world { board.new.0 ≡ board.old.0 }
     ensures end { IsSessionEnd result }
 {

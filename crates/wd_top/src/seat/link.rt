@@ -3,8 +3,8 @@ ghost use Rattle.wd_ports.specs.Links.{Keeps, Stays};
 ghost use Rattle.wd_ports.specs.Send.{Sends};
 ghost use Rattle.wd_top.specs.declared.seat.link.Heard.{Heard as HeardIs};
 ghost use Rattle.http_text.specs.ReplyText.{reply_text};
-ghost use Rattle.wd_top.specs.Session.{service_at, tail_text, is_head};
-ghost use Rattle.wd_top.specs.Steps.{Knows, SameButConn, Hears, Replies, Handles, NoneFell, end_of};
+ghost use Rattle.wd_top.specs.Session.{tail_text, is_head};
+ghost use Rattle.wd_top.specs.Steps.{Knows, SameButConn, Hears, RepliesOn, HandlesOn, NoneFell, end_of};
 
 use crate::board::Board;
 use http_in::{Conn, Fed};
@@ -167,7 +167,7 @@ fn reply_to<P: Port, I: Isolate>(
 ) -> StepEnd
     requires usable { P.usable port.old link }
     requires socket { socket.0 < length board.old.0.sockets }
-    ensures replies { Replies link (service_at board.old.0.sockets socket) request close result (P.gone port.new link) (P.told port.old) (P.told port.new) board.old.1 board.new.1 }
+    ensures replies { RepliesOn P.told P.gone link port.old port.new board.old board.new socket request close result }
     ensures world { board.new.0 ≡ board.old.0 }
     ensures keeps { Keeps (P.usable port.old) (P.side port.old) (P.usable port.new) (P.side port.new) }
     ensures stays { Stays (P.gone port.old) (P.gone port.new) }
@@ -224,7 +224,7 @@ pub fn handle<P: Port, I: Isolate>(
     requires usable { P.usable port.old link }
     requires socket { run.old.socket.0 < length board.old.0.sockets }
     requires lost { heard ≡ HeardIs.Lost → P.gone port.old link }
-    ensures handles { Handles link (service_at board.old.0.sockets run.old.socket) run.old run.new heard result (P.told port.old) (P.told port.new) board.old.1 board.new.1 (P.gone port.new link) }
+    ensures handles { HandlesOn P.told P.gone link port.old port.new board.old board.new run.old run.new heard result }
     ensures world { board.new.0 ≡ board.old.0 }
     ensures keeps { Keeps (P.usable port.old) (P.side port.old) (P.usable port.new) (P.side port.new) }
     ensures stays { Stays (P.gone port.old) (P.gone port.new) }

@@ -7,7 +7,8 @@ abbrev pub invariant-loop : goal.invariant-loop
 invariant-loop g l = record {
   can : (goal.iterator-loop g).can_next l.iterator';
   finite : (goal.iterator-loop g).is_finite l.iterator';
-  tended : Tended l.board.0.sockets (g.P.Files.told l.port) (g.P.Files.usable l.port) (g.P.Files.gone l.port) l.board.1 l.runs.items;
+  tended : Tended l.board.0.sockets (g.P.Files.told l.port) (g.P.Files.usable l.port) (g.P.Files.gone l.port) l.board.1
+      l.runs.items;
   within : AreWithin l.live.items (length l.runs.items);
   covers : Covers l.live.items l.runs.items;
   small : length l.runs.items < 2 ^ 32;

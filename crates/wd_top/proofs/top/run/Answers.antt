@@ -6,8 +6,10 @@ use Rattle.wd_top.proofs.top.run.Goals as goal
 pub returns-in-Err-clause-comes : goal.returns-in-Err-clause-comes
 returns-in-Err-clause-comes g c =
     let same = sym c.early.ensures.outcome in
-    early_comes _ _ _ _ _ _ _ _ _ (subst IsEarly same c.in-Err.ensures.early) (subst (IsCaused _) same c.in-Err.ensures.caused)
-    c.early.ensures.journal (ap length c.requires) (λ world k d h. absurd (no_item c.args.ports.now.items k c.requires h))
+    early_comes _ _ _ _ _ _ _ _ _ (subst IsEarly same c.in-Err.ensures.early)
+        (subst (IsCaused _) same c.in-Err.ensures.caused)
+    c.early.ensures.journal (ap length c.requires)
+        (λ world k d h. absurd (no_item c.args.ports.now.items k c.requires h))
 
 pub returns-in-Ok-clause-comes : goal.returns-in-Ok-clause-comes
 returns-in-Ok-clause-comes g c = session_comes _ _ _ _ _ _ c.in-Ok.ensures.asked c.serve.ensures.ran

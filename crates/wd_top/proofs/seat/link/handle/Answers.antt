@@ -1,16 +1,23 @@
 use Rattle.std.proofs.Common.{◌∙◌, ap}
 use Rattle.wd_top.specs.declared.seat.link.Heard.TheVariants as heard
-use Rattle.wd_top.proofs.HandleSteps.{handles_later, handles_nothing, handles_end, handles_lost, handles_full, handles_request, handles_bad}
+use Rattle.wd_top.proofs.HandleSteps.{handles_later, handles_nothing, handles_end, handles_lost, handles_full}
+use Rattle.wd_top.proofs.HandleSteps.{handles_request, handles_bad}
 use Rattle.wd_top.proofs.seat.link.handle.Goals as goal
 
 pub returns-in-Fed-Later-clause-handles : goal.returns-in-Fed-Later-clause-handles
-returns-in-Fed-Later-clause-handles g c = handles_later _ _ c.args.run.now _ _ _ _ (c.in-Fed-Later.is ∙ ap heard.Fed c.in-Fed-Later.field-0-is)
+returns-in-Fed-Later-clause-handles g c = handles_later _ _ c.args.run.now _ _ _ _ (c.in-Fed-Later.is
+    ∙ ap heard.Fed c.in-Fed-Later.field-0-is)
 
 pub returns-in-Fed-Request-clause-handles : goal.returns-in-Fed-Request-clause-handles
-returns-in-Fed-Request-clause-handles g c = handles_request _ _ c.args.run.now _ c.in-Fed-Request.request c.in-Fed-Request.close _ _ _ _ _ _ (c.in-Fed-Request.is ∙ ap heard.Fed c.in-Fed-Request.field-0-is) c.reply_to.ensures.replies
+returns-in-Fed-Request-clause-handles g c =
+    handles_request _ _ c.args.run.now _ c.in-Fed-Request.request c.in-Fed-Request.close _ _ _ _ _ _
+    (c.in-Fed-Request.is ∙ ap heard.Fed c.in-Fed-Request.field-0-is) c.reply_to.ensures.replies
 
 pub returns-in-Fed-Bad-clause-handles : goal.returns-in-Fed-Bad-clause-handles
-returns-in-Fed-Bad-clause-handles g c = rw c.end_of.ensures (handles_bad _ _ c.args.run.now _ c.in-Fed-Bad.code c.refuse-refused.result _ _ _ _ (c.in-Fed-Bad.is ∙ ap heard.Fed c.in-Fed-Bad.field-0-is) c.refuse-refused.ensures.lost c.refuse-refused.ensures.sends)
+returns-in-Fed-Bad-clause-handles g c =
+    rw c.end_of.ensures (handles_bad _ _ c.args.run.now _ c.in-Fed-Bad.code c.refuse-refused.result _ _ _ _
+    (c.in-Fed-Bad.is ∙ ap heard.Fed c.in-Fed-Bad.field-0-is) c.refuse-refused.ensures.lost
+    c.refuse-refused.ensures.sends)
 
 pub returns-in-Nothing-clause-handles : goal.returns-in-Nothing-clause-handles
 returns-in-Nothing-clause-handles g c = handles_nothing _ _ c.args.run.now _ _ _ _ c.in-Nothing.is
