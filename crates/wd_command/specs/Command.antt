@@ -9,6 +9,8 @@ use Rattle.wd_command.specs.declared.command.Asks.TheVariants as told
 use Rattle.wd_command.specs.declared.command.CommandLine.{CommandLine}
 use Rattle.wd_command.specs.declared.command.Verb.{Verb}
 use Rattle.wd_command.specs.declared.command.Verb.TheVariants as verb
+use Rattle.wd_command.specs.declared.notice.Notice.{Notice}
+use Rattle.wd_command.specs.declared.notice.Notice.TheVariants as notice
 
 -- a command: its verb, the path of the configuration, and the name of the constant in it, where one is named
 pub record Asked : Type 0 where
@@ -16,12 +18,10 @@ pub record Asked : Type 0 where
   pub config : Text
   pub constant : Option Text
 
--- what the words of a command line ask for: a command, the text of help, that of the version, or nothing
+-- what the words of a command line ask for: a command, or that a text is shown
 pub data Wish : Type 0 where
   runs : Asked → Wish
-  helps : Wish
-  tells_version : Wish
-  fails : Wish
+  shows : Notice → Wish
 
 -- what a command line in the code asks for
 abbrev pub asked_of : CommandLine → Asked
@@ -30,9 +30,7 @@ asked_of c = record { verb = c.verb; config = c.config.now; constant = option_ma
 -- the wish that an answer of the code says
 abbrev pub wish_of : Asks → Wish
 wish_of (told.Run c) = runs (asked_of c)
-wish_of told.Help = helps
-wish_of told.Version = tells_version
-wish_of told.Fault = fails
+wish_of (told.Show n) = shows n
 
 -- the verb that a word is
 abbrev pub verb_of : Text → Option Verb
@@ -51,31 +49,31 @@ is_one given = option_map_or (λ value. bytes_eq value (codes "1")) given true
 -- the command of a verb with a configuration and perhaps its constant
 abbrev pub run : Option Verb → Option Text → Option Text → Wish
 run (Some v) (Some config) constant = runs (record { verb = v; config = config; constant = constant })
-run _ _ constant = fails
+run _ _ constant = shows notice.Fault
 
 -- what the words behind a verb ask for, of which clap made these rows
 abbrev pub given : Option Verb → List Row → Wish
 given v rows =
-    if is_on (codes "help") rows then helps
+    if is_on (codes "help") rows then shows notice.Help
     else (if is_one (first_of (codes "threads") rows)
-    then run v (first_of (codes "config") rows) (first_of (codes "const") rows) else fails)
+    then run v (first_of (codes "config") rows) (first_of (codes "const") rows) else shows notice.Fault)
 
 -- what the words ask for by the command that stands among them
 abbrev pub by_command : Option (Text × List Row) → Wish
-by_command None = fails
+by_command None = shows notice.Fault
 by_command (Some p) = given (verb_of p.0) p.1
 
 -- what words ask for of which clap made these rows, and perhaps a command with rows of its own
 abbrev pub asked_in : List Row → Option (Text × List Row) → Wish
 asked_in rows command =
-    if is_on (codes "help") rows then helps
-    else (if is_on (codes "version") rows then tells_version else by_command command)
+    if is_on (codes "help") rows then shows notice.Help
+    else (if is_on (codes "version") rows then shows notice.Version else by_command command)
 
 -- what the words ask for: `--help` before `--version` before a command, and nothing where clap finds a fault in them
 abbrev pub wish : List Text → Wish
 wish words =
     if length (fault_of program words) == 0 then asked_in (matches_of program words) (subcommand_of program words)
-    else fails
+    else shows notice.Fault
 
 -- the command that a wish is
 abbrev pub run_in : Wish → Option Asked

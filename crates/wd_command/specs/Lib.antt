@@ -1,3 +1,3 @@
 pub mod Program
+pub mod Notice
 pub mod Command
-pub mod Text

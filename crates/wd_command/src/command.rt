@@ -3,6 +3,7 @@ ghost use Rattle.clap.specs.Words.{first_of, found_of, rows_of, subcommand_rows_
 ghost use Rattle.wd_command.specs.Command.{asked_in, asked_of, command, given, is_on, is_one, is_serve, run, verb_of};
 ghost use Rattle.wd_command.specs.Command.{wish, wish_of};
 
+use crate::notice::Notice;
 use crate::program::program;
 use clap::ArgMatches;
 use clap::error::ErrorKind;
@@ -33,12 +34,8 @@ pub struct CommandLine<'a> {
 pub enum Asks<'a> {
     /// A command.
     Run(CommandLine<'a>),
-    /// The text of help.
-    Help,
-    /// The name and the version.
-    Version,
-    /// The words are no command line.
-    Fault,
+    /// No command: a text is shown.
+    Show(Notice),
 }
 
 /// What the words ask for, without the program's own name: `serve <config> [<const>] [--threads 1]`,
@@ -52,7 +49,7 @@ pub fn asks_of<'a>(alloc: Global, words: &'a [String]) -> Result<Asks<'a>, NoMem
         Ok(matches) => Ok(asked_in(&matches)),
         Err(error) => match error.kind() {
             ErrorKind::OutOfMemory => Err(NoMemory),
-            _ => Ok(Asks::Fault),
+            _ => Ok(Asks::Show(Notice::Fault)),
         },
     }
 }
@@ -72,13 +69,13 @@ fn asked_in<'a>(matches: &ArgMatches<'a>) -> Asks<'a>
     ensures { wish_of result ≡ asked_in (rows_of (found_of matches.now)) (subcommand_rows_of matches.now) }
 {
     if is_on(matches, "help") {
-        Asks::Help
+        Asks::Show(Notice::Help)
     } else if is_on(matches, "version") {
-        Asks::Version
+        Asks::Show(Notice::Version)
     } else {
         match matches.subcommand() {
             Some((name, command)) => given(verb_of(name), command),
-            None => Asks::Fault,
+            None => Asks::Show(Notice::Fault),
         }
     }
 }
@@ -88,11 +85,11 @@ fn given<'a>(verb: Option<Verb>, matches: &ArgMatches<'a>) -> Asks<'a>
     ensures { wish_of result ≡ given verb (rows_of (found_of matches.now)) }
 {
     if is_on(matches, "help") {
-        Asks::Help
+        Asks::Show(Notice::Help)
     } else if is_one(value_of(matches, "threads")) {
         run(verb, value_of(matches, "config"), value_of(matches, "const"))
     } else {
-        Asks::Fault
+        Asks::Show(Notice::Fault)
     }
 }
 
@@ -146,6 +143,6 @@ fn run<'a>(verb: Option<Verb>, config: Option<&'a str>, constant: Option<&'a str
             config,
             constant,
         }),
-        _ => Asks::Fault,
+        _ => Asks::Show(Notice::Fault),
     }
 }

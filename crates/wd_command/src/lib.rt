@@ -2,10 +2,10 @@
 #![tactic(auto)]
 
 mod command;
+mod notice;
 mod program;
 #[cfg(test)]
 mod tests;
-mod text;
 
 pub use command::{Asks, CommandLine, Verb, asks_of, serves};
-pub use text::shown;
+pub use notice::Notice;

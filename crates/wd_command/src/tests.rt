@@ -1,6 +1,6 @@
 //! Command lines. What is expected was worked out by hand.
 
-use crate::{Asks, Verb, asks_of, serves, shown};
+use crate::{Asks, Verb, asks_of, serves};
 use std::alloc::Global;
 use std::test::Fail;
 use wd_base::NoMemory;
@@ -49,9 +49,8 @@ fn commands(rt: HostRuntime) -> Result<(), Fail> {
                 assert!(rt; line.config == config, "{words:?}");
                 assert!(rt; line.constant == constant, "{words:?}");
             }
-            _ => assert!(rt; false, "{words:?}"),
+            Asks::Show(_) => assert!(rt; false, "{words:?}"),
         }
-        assert!(rt; shown(asks).is_none(), "{words:?}");
         assert!(rt; serves(rt.alloc(), list.as_slice())? == (verb == Verb::Serve), "{words:?}");
     }
     Ok(())
@@ -103,12 +102,12 @@ fn texts(rt: HostRuntime) -> Result<(), Fail> {
     for (words, status, begin) in cases {
         let list = words_of(rt.alloc(), words)?;
         let asks = asks_of(rt.alloc(), list.as_slice())?;
-        match shown(asks) {
-            Some((found, text)) => {
-                assert!(rt; found == status, "{words:?}");
-                assert!(rt; text.starts_with(begin), "{words:?}");
+        match asks {
+            Asks::Show(notice) => {
+                assert!(rt; notice.status() == status, "{words:?}");
+                assert!(rt; notice.text().starts_with(begin), "{words:?}");
             }
-            None => assert!(rt; false, "{words:?}"),
+            Asks::Run(_) => assert!(rt; false, "{words:?}"),
         }
         assert!(rt; !serves(rt.alloc(), list.as_slice())?, "{words:?}");
     }

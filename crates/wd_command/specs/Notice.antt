@@ -1,6 +1,7 @@
 -- What is printed where the words are no command, and with which status.
-use Rattle.std.specs.Prelude.{ℕ, List, [], ◌++◌, ◌∷◌, Option, Some, None, codes}
-use Rattle.wd_command.specs.Command.{Wish, runs, helps, tells_version, fails}
+use Rattle.std.specs.Prelude.{ℕ, List, [], ◌++◌, ◌∷◌, codes}
+use Rattle.wd_command.specs.declared.notice.Notice.{Notice}
+use Rattle.wd_command.specs.declared.notice.Notice.TheVariants as notice
 
 -- one line: the text with a line end behind it, and then the lines below
 abbrev pub line : List ℕ → List ℕ → List ℕ
@@ -35,9 +36,14 @@ help_text =
     (line (codes "  --version    prints the name and the version")
     [])))))))))))))))
 
--- the status and the text of words that are no command
-abbrev pub shown : Wish → Option (ℕ × List ℕ)
-shown (runs asked) = None
-shown helps = Some (0, help_text)
-shown tells_version = Some (0, version_text)
-shown fails = Some (1, fault_text)
+-- the exit status of what is shown
+abbrev pub status_of : Notice → ℕ
+status_of notice.Help = 0
+status_of notice.Version = 0
+status_of notice.Fault = 1
+
+-- what is shown
+abbrev pub text_of : Notice → List ℕ
+text_of notice.Help = help_text
+text_of notice.Version = version_text
+text_of notice.Fault = fault_text
