@@ -26,6 +26,7 @@ no_fault_at a ws e h = subst (λ (b : App). is_simple_and_free b ≡ true → fa
 
 -- the wish of words in which clap finds no fault
 pub wish_found : (ws : List Text) → fault_of program ws ≡ [] → asked_in (matches_of program ws) (subcommand_of program ws) ≡ wish ws
+unfolding wish
 wish_found ws e = rw (e) refl
 
 -- the wish of words, by the matches that clap made of them

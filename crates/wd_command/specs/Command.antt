@@ -70,7 +70,7 @@ asked_in rows command =
     else (if is_on (codes "version") rows then shows notice.Version else by_command command)
 
 -- what the words ask for: `--help` before `--version` before a command, and nothing where clap finds a fault in them
-abbrev pub wish : List Text → Wish
+unfoldable pub wish : List Text → Wish
 wish words =
     if length (fault_of program words) == 0 then asked_in (matches_of program words) (subcommand_of program words)
     else shows notice.Fault

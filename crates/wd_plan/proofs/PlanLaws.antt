@@ -7,6 +7,10 @@ use Rattle.std.proofs.Common.{sym, ap, subst, ◌∙◌, arith}
 use Rattle.std.proofs.lemmas.Bool.{false≢true}
 use Rattle.wd_base.specs.declared.config.Config.{Config}
 use Rattle.wd_base.specs.declared.config.Service.{Service}
+use Rattle.wd_command.specs.declared.command.Verb.{Verb}
+use Rattle.wd_command.specs.declared.command.Verb.TheVariants as verb
+use Rattle.wd_command.specs.declared.notice.Notice.{Notice}
+use Rattle.wd_command.specs.Command.{Asked, Wish, runs, shows, is_serve, is_serving, wish}
 use Rattle.wd_config.specs.declared.faults.ConfigEnd.{ConfigEnd}
 use Rattle.wd_config.specs.declared.faults.ConfigEnd.TheVariants as end
 use Rattle.wd_config.specs.declared.faults.ConfigFault.{ConfigFault}
@@ -20,14 +24,11 @@ use Rattle.wd_graph.specs.declared.linking.GraphFault.{GraphFault}
 use Rattle.wd_graph.specs.Links.{first_unknown, linked}
 use Rattle.wd_graph.specs.Names.{names_differ as differ_test, has_name, same_name}
 use Rattle.wd_graph.proofs.Numbers.{one_name}
-use Rattle.wd_plan.specs.declared.command.Verb.{Verb}
-use Rattle.wd_plan.specs.declared.command.Verb.TheVariants as verb
 use Rattle.wd_plan.specs.declared.ready.PlanEnd.{PlanEnd}
 use Rattle.wd_plan.specs.declared.reason.RefusedScript.{RefusedScript}
 use Rattle.wd_plan.specs.declared.refusal.Refusal.TheVariants as refusal
-use Rattle.wd_plan.specs.Command.{Asked, command, is_serve, is_serving}
 use Rattle.wd_plan.specs.Folder.{folder}
-use Rattle.wd_plan.specs.Plan.{Plan, Refuses, Starts, Plans, AtAnswer, AtCommand, AtFile, AtKinds, AtNames, AtScripts}
+use Rattle.wd_plan.specs.Plan.{Plan, Refuses, Starts, Plans, AtAnswer, AtWish, AtFile, AtKinds, AtNames, AtScripts}
 use Rattle.wd_plan.specs.Plan.{AtConfig, MayHold, EmbedsPath, IsReading, at_script, may_go}
 use Rattle.wd_plan.specs.Prepare.{IsAskedBy, IsLateEnd, IsLateRefusal, OnEndFault, OnRefusedFault, end_of}
 use Rattle.wd_plan.specs.Prepare.{IsRefused, fault_refusal, plan_of_end, plan_of_refusal}
@@ -84,21 +85,21 @@ at_config : (s : Stored) (asked : Asked) (p p' : Plan) → AtConfig (Some s) ask
 at_config s asked p p' (bytes, held, at) (bytes', held', at') =
     at_file s asked bytes p p' at (subst (λ b. AtFile (Some s) asked b p') (sym held' ∙ held) at')
 
-at_command : (s : Stored) (asked : Option Asked) (p p' : Plan) → AtCommand (Some s) asked p
-    → AtCommand (Some s) asked p' → p ≡ p'
-at_command s None p p' h h' = h ∙ sym h'
-at_command s (Some asked) p p' h h' = at_config s asked p p' h h'
+at_wish : (s : Stored) (asks : Wish) (p p' : Plan) → AtWish (Some s) asks p → AtWish (Some s) asks p' → p ≡ p'
+at_wish s (shows notice) p p' h h' = h ∙ sym h'
+at_wish s (runs asked) p p' h h' = at_config s asked p p' h h'
 
 pub plans_one : (words : List (List ℕ)) (s : Stored) (p p' : Plan) → Plans words (Some s) p → Plans words (Some s) p'
     → p ≡ p'
 unfolding Plans
-plans_one words s p p' h h' = at_command s (command words) p p' h h'
+plans_one words s p p' h h' = at_wish s (wish words) p p' h h'
 
--- words that are no command line ask for their refusal
-pub no_command : (words : List (List ℕ)) (files : Option Stored) → command words ≡ None
-    → Plans words files (Refuses refusal.CommandLine)
+-- words that ask for a notice ask for it whatever the files are
+pub no_command : (words : List (List ℕ)) (files : Option Stored) (notice : Notice) → wish words ≡ shows notice
+    → Plans words files (Refuses (refusal.NoCommand notice))
 unfolding Plans
-no_command words files e = subst (λ c. AtCommand files c (Refuses refusal.CommandLine)) (sym e) refl
+no_command words files notice e =
+    subst (λ w. AtWish files w (Refuses (refusal.NoCommand notice))) (sym e) refl
 
 -- what is to be served was asked to be
 pub serve_asked : (asked : Option Asked) (v : Verb) → IsAskedBy asked v → v ≡ verb.Serve → is_serve asked ≡ true

@@ -1,18 +1,18 @@
 -- What the words and the files ask for.
 use Rattle.std.specs.Prelude.{◌≡◌, ◌⊎◌, ℕ, Bool, true, false, ◌&&◌, List, Option, Some, None, IfSome, codes}
 use Rattle.wd_base.specs.declared.config.Config.{Config}
+use Rattle.wd_command.specs.declared.command.Verb.{Verb}
+use Rattle.wd_command.specs.declared.command.Verb.TheVariants as verb
+use Rattle.wd_command.specs.Command.{Asked, Wish, runs, shows, command, wish}
 use Rattle.wd_config.specs.declared.faults.ConfigFault.{ConfigFault}
 use Rattle.wd_config.specs.declared.faults.ConfigKind.TheVariants.{LeftOut}
 use Rattle.wd_config.specs.Answer.{Answers}
 use Rattle.wd_config.specs.Reading.{Answer, Found, Refused, Untold, Read, HasEmbed, Says}
 use Rattle.wd_graph.specs.declared.linking.GraphFault.{GraphFault}
 use Rattle.wd_graph.specs.Links.{first_unknown, linked}
-use Rattle.wd_plan.specs.declared.command.Verb.{Verb}
-use Rattle.wd_plan.specs.declared.command.Verb.TheVariants as verb
 use Rattle.wd_plan.specs.declared.reason.RefusedScript.{RefusedScript}
 use Rattle.wd_plan.specs.declared.refusal.Refusal.{Refusal}
 use Rattle.wd_plan.specs.declared.refusal.Refusal.TheVariants as refusal
-use Rattle.wd_plan.specs.Command.{Asked, command}
 use Rattle.wd_plan.specs.Folder.{folder}
 use Rattle.wd_plan.specs.Starts.{are_plain, are_at_workers, FirstRefused}
 use Rattle.wd_ports.specs.Told.{Stored, file_at}
@@ -77,16 +77,15 @@ abbrev pub AtConfig : Option Stored → Asked → Plan → Type 0
 AtConfig files asked plan = (bytes : Option (List ℕ)) × MayHold files asked.config bytes
     × AtFile files asked bytes plan
 
--- at the command
--- (the plan of a parsed command line: refused where there is none; else what its configuration asks for)
-abbrev pub AtCommand : Option Stored → Option Asked → Plan → Type 0
-AtCommand files None plan = plan ≡ Refuses refusal.CommandLine
-AtCommand files (Some asked) plan = AtConfig files asked plan
+-- at what the words ask for: a notice, or what the configuration of a command asks for
+abbrev pub AtWish : Option Stored → Wish → Plan → Type 0
+AtWish files (shows notice) plan = plan ≡ Refuses (refusal.NoCommand notice)
+AtWish files (runs asked) plan = AtConfig files asked plan
 
 -- The words and the files ask for this. Where the files are told, they ask for one plan alone; where they are not, this
 -- is what they ask for with some bytes of the configuration's file and some answers to its embeds.
 unfoldable pub Plans : List (List ℕ) → Option Stored → Plan → Type 0
-Plans words files plan = AtCommand files (command words) plan
+Plans words files plan = AtWish files (wish words) plan
 
 -- the reading comes to an embed of this path, as it is written
 abbrev pub HasPath : Read Config → List ℕ → Type 0

@@ -1,9 +1,9 @@
 use Rattle.std.proofs.Common.{subst, sym, Err, IfSome, List, ℕ, Ok, Some, option_map}
 use Rattle.wd_base.specs.declared.config.Config.{Config}
+use Rattle.wd_command.specs.Command.{asked_of}
 use Rattle.wd_config.specs.Answer.{Answers, Answered}
 use Rattle.wd_config.specs.Reading.{Read, Tells}
 use Rattle.wd_plan.specs.declared.ready.PlanEnd.{PlanEnd}
-use Rattle.wd_plan.specs.Command.{asked_of}
 use Rattle.wd_plan.specs.Plan.{AtFile, EmbedsPath}
 use Rattle.wd_plan.specs.Prepare.{IsLateEnd, OnEndFault, plan_of_end}
 use Rattle.wd_ports.specs.Faults.{ReadFile, RoseIn}
