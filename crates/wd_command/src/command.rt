@@ -87,7 +87,11 @@ fn given<'a>(verb: Option<Verb>, matches: &ArgMatches<'a>) -> Asks<'a>
     if is_on(matches, "help") {
         Asks::Show(Notice::Help)
     } else if is_one(value_of(matches, "threads")) {
-        run(verb, value_of(matches, "config"), value_of(matches, "const"))
+        run(
+            verb,
+            value_of(matches, "config"),
+            value_of(matches, "const"),
+        )
     } else {
         Asks::Show(Notice::Fault)
     }

@@ -25,15 +25,40 @@ fn commands(rt: HostRuntime) -> Result<(), Fail> {
         (&["serve", "c", "--threads", "1"], Verb::Serve, "c", None),
         (&["serve", "c", "--threads=1"], Verb::Serve, "c", None),
         (&["serve", "--threads", "1", "c"], Verb::Serve, "c", None),
-        (&["serve", "--threads=1", "c", "main"], Verb::Serve, "c", Some("main")),
-        (&["serve", "c", "--threads", "1", "main"], Verb::Serve, "c", Some("main")),
-        (&["serve", "c", "main", "--threads", "1"], Verb::Serve, "c", Some("main")),
+        (
+            &["serve", "--threads=1", "c", "main"],
+            Verb::Serve,
+            "c",
+            Some("main"),
+        ),
+        (
+            &["serve", "c", "--threads", "1", "main"],
+            Verb::Serve,
+            "c",
+            Some("main"),
+        ),
+        (
+            &["serve", "c", "main", "--threads", "1"],
+            Verb::Serve,
+            "c",
+            Some("main"),
+        ),
         (&["serve", "-"], Verb::Serve, "-", None),
         (&["serve", "-", "-"], Verb::Serve, "-", Some("-")),
         (&["serve", "--", "-c"], Verb::Serve, "-c", None),
-        (&["serve", "c", "--", "--help"], Verb::Serve, "c", Some("--help")),
+        (
+            &["serve", "c", "--", "--help"],
+            Verb::Serve,
+            "c",
+            Some("--help"),
+        ),
         (&["serve", "--", "--"], Verb::Serve, "--", None),
-        (&["serve", "serve", "check"], Verb::Serve, "serve", Some("check")),
+        (
+            &["serve", "serve", "check"],
+            Verb::Serve,
+            "serve",
+            Some("check"),
+        ),
         (&["serve", ""], Verb::Serve, "", None),
         (&["check", "c"], Verb::Check, "c", None),
         (&["check", "c", "main"], Verb::Check, "c", Some("main")),
@@ -51,7 +76,10 @@ fn commands(rt: HostRuntime) -> Result<(), Fail> {
             }
             Asks::Show(_) => assert!(rt; false, "{words:?}"),
         }
-        assert!(rt; serves(rt.alloc(), list.as_slice())? == (verb == Verb::Serve), "{words:?}");
+        assert!(rt;
+            serves(rt.alloc(), list.as_slice())? == (verb == Verb::Serve),
+            "{words:?}"
+        );
     }
     Ok(())
 }
@@ -60,7 +88,11 @@ fn commands(rt: HostRuntime) -> Result<(), Fail> {
 fn texts(rt: HostRuntime) -> Result<(), Fail> {
     // the words, the status, and how the text begins
     let cases: [(&[&str], u8, &[u8]); 38] = [
-        (&["--help"], 0, b"A server for stateless JavaScript Workers.\n\nUsage:\n"),
+        (
+            &["--help"],
+            0,
+            b"A server for stateless JavaScript Workers.\n\nUsage:\n",
+        ),
         (&["--help", "serve"], 0, b"A server"),
         (&["serve", "--help"], 0, b"A server"),
         (&["serve", "c", "--help"], 0, b"A server"),
@@ -87,15 +119,35 @@ fn texts(rt: HostRuntime) -> Result<(), Fail> {
         (&["serve", "-c"], 1, b"error: command line\n"),
         (&["serve", "c", "-n"], 1, b"error: command line\n"),
         (&["serve", "c", "main", "more"], 1, b"error: command line\n"),
-        (&["serve", "c", "--threads", "2"], 1, b"error: command line\n"),
-        (&["serve", "c", "--threads", "+1"], 1, b"error: command line\n"),
+        (
+            &["serve", "c", "--threads", "2"],
+            1,
+            b"error: command line\n",
+        ),
+        (
+            &["serve", "c", "--threads", "+1"],
+            1,
+            b"error: command line\n",
+        ),
         (&["serve", "c", "--threads="], 1, b"error: command line\n"),
         (&["serve", "c", "--threads"], 1, b"error: command line\n"),
-        (&["serve", "c", "--threads", "-"], 1, b"error: command line\n"),
-        (&["serve", "c", "--threads", "1", "--threads", "1"], 1, b"error: command line\n"),
+        (
+            &["serve", "c", "--threads", "-"],
+            1,
+            b"error: command line\n",
+        ),
+        (
+            &["serve", "c", "--threads", "1", "--threads", "1"],
+            1,
+            b"error: command line\n",
+        ),
         (&["serve", "c", "--version"], 1, b"error: command line\n"),
         (&["serve", "--bogus", "--help"], 1, b"error: command line\n"),
-        (&["check", "c", "--threads", "1"], 1, b"error: command line\n"),
+        (
+            &["check", "c", "--threads", "1"],
+            1,
+            b"error: command line\n",
+        ),
         (&["check", "c", "main", "more"], 1, b"error: command line\n"),
         (&["replay", "j", "c"], 1, b"error: command line\n"),
     ];
