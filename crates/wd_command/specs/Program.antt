@@ -1,7 +1,10 @@
 -- The program's options and words, as clap is given them.
-use Rattle.std.specs.Prelude.{[], Some, codes, true}
-use Rattle.clap.specs.Words.{App, Shape, Rule, Text, new_app, new_rule, with_rule, with_subcommand}
+use Rattle.std.specs.Prelude.{◌≡◌, [], Some, codes, false, true}
+use Rattle.clap.specs.Words.{App, Shape, Rule, Text, app_of, fields_of, new_app, new_rule, rule_of, with_rule}
+use Rattle.clap.specs.Words.{with_subcommand}
 use Rattle.clap.specs.declared.builder.action.ArgAction.TheVariants.{SetTrue}
+use Rattle.clap.specs.declared.builder.arg.Arg.{Arg}
+use Rattle.clap.specs.declared.builder.command.Command.{Command}
 
 -- a word that stands at its place: its value is what was given there
 abbrev pub word : Text → Rule
@@ -44,3 +47,11 @@ top = record { top = plain (new_app (codes "workerd")).top; subs = [] }
 abbrev pub program : App
 program = with_subcommand (with_subcommand (with_rule (with_rule top (flag (codes "help"))) (flag (codes "version")))
     serve.top) check.top
+
+-- the argument has this rule, and holds for its own command alone
+abbrev pub IsArg : Rule → Arg → Type 0
+IsArg rule arg = (rule_of arg ≡ rule) × (arg.global ≡ false)
+
+-- the command has this form, and each of its arguments holds for it alone
+abbrev pub IsApp : App → Command → Type 0
+IsApp app command = (app_of command ≡ app) × ((fields_of command).has_globals ≡ false)
