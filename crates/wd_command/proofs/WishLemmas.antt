@@ -34,7 +34,8 @@ wish_found ws e = rw (e) refl
 
 -- the wish of words, by the matches that clap made of them
 pub wish_at : (a : App) (ws : List Text) (m : ArgMatches) → a ≡ program → HasMatchesOf a ws m
-    → (is_simple_and_free a ≡ true → fault_of a ws ≡ []) → asked_in (rows_of (found_of m)) (subcommand_rows_of m) ≡ wish ws
+    → (is_simple_and_free a ≡ true → fault_of a ws ≡ [])
+    → asked_in (rows_of (found_of m)) (subcommand_rows_of m) ≡ wish ws
 wish_at a ws m e h f =
     let both = subst (λ (b : App). HasMatchesOf b ws m) e h program_simple in
     ap₂ asked_in both.0 both.1 ∙ wish_found ws (no_fault_at a ws e f)

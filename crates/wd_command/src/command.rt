@@ -41,6 +41,7 @@ pub enum Asks<'a> {
 /// What the words ask for, without the program's own name: `serve <config> [<const>] [--threads 1]`,
 /// `check <config> [<const>]`, `--help` alone or with a command, or `--version`. Options may stand
 /// anywhere behind the command; a word behind `--` is no option.
+#[tactic(auto, unfolding(crate::specs::Command::wish))]
 pub fn asks_of<'a>(alloc: Global, words: &'a [String]) -> Result<Asks<'a>, NoMemory>
     ensures { IfOk result (λ asks. wish_of asks ≡ wish (map string_bytes words.entry.now)) }
 {
