@@ -18,14 +18,15 @@ use Rattle.wd_plan.specs.declared.refusal.Refusal.{Refusal}
 use Rattle.wd_plan.specs.declared.refusal.Refusal.TheVariants as refusal
 use Rattle.wd_plan.specs.Command.{Asked}
 use Rattle.wd_plan.specs.Constant.{constant_means}
-use Rattle.wd_plan.specs.Plan.{Plan, Refuses, Starts}
+use Rattle.wd_plan.specs.Plan.{Plan, Refuses, Starts, MayHold}
+use Rattle.wd_ports.specs.Told.{Stored}
 
--- what was found is what is told of the file
-abbrev pub ShowsRead : Option (List ℕ) → Found → Type 0
-ShowsRead told (found.Bytes bytes) = told ≡ Some bytes
-ShowsRead told found.Missing = told ≡ None
-ShowsRead told found.Fault = Unit {0}
-ShowsRead told found.NoMemory = Unit {0}
+-- what was found is what the file of this path may hold
+abbrev pub ShowsRead : Option Stored → List ℕ → Found → Type 0
+ShowsRead files path (found.Bytes bytes) = MayHold files path (Some bytes)
+ShowsRead files path found.Missing = MayHold files path None
+ShowsRead files path found.Fault = Unit {0}
+ShowsRead files path found.NoMemory = Unit {0}
 
 -- the bytes that were found are few enough to be read as a configuration
 abbrev pub IsShort : Found → Type 0

@@ -1,5 +1,6 @@
 ghost use Rattle.std.specs.Prelude.{◌≡◌, map, string_bytes, option_map};
-ghost use Rattle.wd_plan.specs.Command.{command, asked_of, is_serve, verb_of, is_positional, with_threads, asked, may_stand};
+ghost use Rattle.wd_plan.specs.Command.{command, asked_of, is_serve, verb_of, is_positional, with_threads};
+ghost use Rattle.wd_plan.specs.Command.{asked, may_stand};
 
 /// What a command does.
 #[derive(Clone, Copy, Debug, PartialEq, Eq)]

@@ -23,9 +23,8 @@ returns-in-Err-clause-plan g c =
     let files = (g.F.Files.told c.args.files.now).files in
     let reads = subst (λ (p : List ℕ). Answered c.args.bytes.now (asked_of c.args.asked).constant p files
         (Err c.in-Err.end)) c.folder_of.ensures c.in-Err.ensures.reads in
-    subst (λ (e : PlanEnd). IfSome files
-        (λ s. IfSome (plan_of_end e) (AtFile s (asked_of c.args.asked) (Some c.args.bytes.now)))) (sym c.at_end.ensures)
-        (at_end files (asked_of c.args.asked) c.args.bytes.now c.in-Err.end reads)
+    subst (λ (e : PlanEnd). IfSome (plan_of_end e) (AtFile files (asked_of c.args.asked) (Some c.args.bytes.now)))
+        (sym c.at_end.ensures) (at_end files (asked_of c.args.asked) c.args.bytes.now c.in-Err.end reads)
 
 pub returns-in-Err-clause-path : goal.returns-in-Err-clause-path
 returns-in-Err-clause-path g c =
