@@ -3,6 +3,7 @@ use Rattle.std.proofs.Common.{◌≡◌, ℕ, ◌≤◌, List, [], length, take,
 use Rattle.std.proofs.Common.{Result, Ok, Err, inl, inr, append-nil, IsErrOf, OnOk}
 use Rattle.std.proofs.lemmas.Bool.{false≢true}
 use Rattle.wd_base.specs.declared.ids.LinkNo.{LinkNo}
+use Rattle.wd_base.specs.declared.ids.Seat.{Seat}
 use Rattle.wd_base.specs.declared.http.ReqData.{ReqData}
 use Rattle.wd_ports.specs.declared.told.LinkState.{LinkState}
 use Rattle.wd_ports.specs.declared.told.Failed.{Failed}
@@ -51,41 +52,53 @@ hears_end n run t new e r = record { change = with_end; tells = e ∙ ended_link
     refl) }
 
 -- neither the port nor the journal changed
-unmoved : (n : LinkNo) (s : List ℕ) (run run' : LinkRun) (i : Heard) (e : StepEnd) (t : Told) (j : List Entry)
+unmoved : (seat : Seat) (n : LinkNo) (s : List ℕ) (run run' : LinkRun) (i : Heard) (e : StepEnd) (t : Told)
+    (j : List Entry)
     (gone : Type 0) → SameButConn run run'
-    → ((l : LinkState) → Known i s l (talk 0 n.0 j) run → After e s l (talk 0 n.0 j) run' gone)
-    → Handles n s run run' i e t t j j gone
-unmoved n s run run' i e t j gone same after =
+    → ((l : LinkState) → Known i s l (talk seat.0 n.0 j) run → After e s l (talk seat.0 n.0 j) run' gone)
+    → Handles seat n s run run' i e t t j j gone
+unmoved seat n s run run' i e t j gone same after =
     record { change = λ l. l; tells = same_link n t; stands = λ l. (refl, refl); same = same; others = λ k ne. refl;
     after = after }
 
-pub handles_later : (n : LinkNo) (s : List ℕ) (run : LinkRun) (i : Heard) (t : Told) (j : List Entry) (gone : Type 0)
-    → i ≡ heard.Fed fed.Later → Handles n s run (record run { ready = false }) i end.Open t t j j gone
-handles_later n s run i t j gone is = unmoved n s run (record run { ready = false }) i end.Open t j gone (refl, refl)
-    (λ l k. let h : Known (heard.Fed fed.Later) s l (talk 0 n.0 j) run = subst (λ x. Known x s l (talk 0 n.0 j) run) is
+pub handles_later : (seat : Seat) (n : LinkNo) (s : List ℕ) (run : LinkRun) (i : Heard) (t : Told) (j : List Entry)
+    (gone : Type 0)
+    → i ≡ heard.Fed fed.Later → Handles seat n s run (record run { ready = false }) i end.Open t t j j gone
+handles_later seat n s run i t j gone is = unmoved seat n s run (record run { ready = false }) i end.Open t j gone
+    (refl, refl)
+    (λ l k. let h : Known (heard.Fed fed.Later) s l (talk seat.0 n.0 j) run = subst
+        (λ x. Known x s l (talk seat.0 n.0 j) run) is
         k in record { reading = h.0; phase = h.1; waits = λ _. h.2 })
 
-pub handles_nothing : (n : LinkNo) (s : List ℕ) (run : LinkRun) (i : Heard) (t : Told) (j : List Entry) (gone : Type 0)
-    → i ≡ heard.Nothing → Handles n s run run i end.Open t t j j gone
-handles_nothing n s run i t j gone is =
-    unmoved n s run run i end.Open t j gone (refl, refl) (λ l k. subst (λ x. Known x s l (talk 0 n.0 j) run) is k)
+pub handles_nothing : (seat : Seat) (n : LinkNo) (s : List ℕ) (run : LinkRun) (i : Heard) (t : Told) (j : List Entry)
+    (gone : Type 0)
+    → i ≡ heard.Nothing → Handles seat n s run run i end.Open t t j j gone
+handles_nothing seat n s run i t j gone is =
+    unmoved seat n s run run i end.Open t j gone (refl, refl)
+        (λ l k. subst (λ x. Known x s l (talk seat.0 n.0 j) run) is k)
 
-pub handles_end : (n : LinkNo) (s : List ℕ) (run : LinkRun) (i : Heard) (t : Told) (j : List Entry) (gone : Type 0)
-    → i ≡ heard.End → Handles n s run run i end.Over t t j j gone
-handles_end n s run i t j gone is = unmoved n s run run i end.Over t j gone (refl, refl)
-    (λ l k. let h : Known heard.End s l (talk 0 n.0 j) run = subst (λ x. Known x s l (talk 0 n.0 j) run) is k in
+pub handles_end : (seat : Seat) (n : LinkNo) (s : List ℕ) (run : LinkRun) (i : Heard) (t : Told) (j : List Entry)
+    (gone : Type 0)
+    → i ≡ heard.End → Handles seat n s run run i end.Over t t j j gone
+handles_end seat n s run i t j gone is = unmoved seat n s run run i end.Over t j gone (refl, refl)
+    (λ l k. let h : Known heard.End s l (talk seat.0 n.0 j) run = subst (λ x. Known x s l (talk seat.0 n.0 j) run) is k
+        in
     (carries_all s _ _ h.0 false h.1, λ _. whole_ended s _ _ h.0 h.1 h.2 h.3))
 
-pub handles_lost : (n : LinkNo) (s : List ℕ) (run : LinkRun) (i : Heard) (t : Told) (j : List Entry) (gone : Type 0)
-    → i ≡ heard.Lost → (i ≡ heard.Lost → gone) → Handles n s run run i end.Over t t j j gone
-handles_lost n s run i t j gone is lost = unmoved n s run run i end.Over t j gone (refl, refl)
-    (λ l k. let h : Known heard.Lost s l (talk 0 n.0 j) run = subst (λ x. Known x s l (talk 0 n.0 j) run) is k in
+pub handles_lost : (seat : Seat) (n : LinkNo) (s : List ℕ) (run : LinkRun) (i : Heard) (t : Told) (j : List Entry)
+    (gone : Type 0)
+    → i ≡ heard.Lost → (i ≡ heard.Lost → gone) → Handles seat n s run run i end.Over t t j j gone
+handles_lost seat n s run i t j gone is lost = unmoved seat n s run run i end.Over t j gone (refl, refl)
+    (λ l k. let h : Known heard.Lost s l (talk seat.0 n.0 j) run = subst (λ x. Known x s l (talk seat.0 n.0 j) run) is k
+        in
     (carries_all s _ _ h.0 false h.1, λ ng. absurd (ng (lost is))))
 
-pub handles_full : (n : LinkNo) (s : List ℕ) (run : LinkRun) (i : Heard) (t : Told) (j : List Entry) (gone : Type 0)
-    → i ≡ heard.Full → Handles n s run run i end.Full t t j j gone
-handles_full n s run i t j gone is = unmoved n s run run i end.Full t j gone (refl, refl)
-    (λ l k. let h : Known heard.Full s l (talk 0 n.0 j) run = subst (λ x. Known x s l (talk 0 n.0 j) run) is k in
+pub handles_full : (seat : Seat) (n : LinkNo) (s : List ℕ) (run : LinkRun) (i : Heard) (t : Told) (j : List Entry)
+    (gone : Type 0)
+    → i ≡ heard.Full → Handles seat n s run run i end.Full t t j j gone
+handles_full seat n s run i t j gone is = unmoved seat n s run run i end.Full t j gone (refl, refl)
+    (λ l k. let h : Known heard.Full s l (talk seat.0 n.0 j) run = subst (λ x. Known x s l (talk seat.0 n.0 j) run) is k
+        in
         carries_all s _ _ h.0 false h.1)
 
 -- a request, its turn and its text
@@ -111,35 +124,36 @@ left_after : (s : List ℕ) (l : LinkState) (t : Talk) (run : LinkRun) (e : Step
 left_after s l t run e gone (inl is) c = subst (λ x. After x s l t run gone) (sym is) c
 left_after s l t run e gone (inr is) c = subst (λ x. After x s l t run gone) (sym is) c
 
-pub handles_request : (n : LinkNo) (s : List ℕ) (run : LinkRun) (i : Heard) (r : ReqData) (c : Bool) (e : StepEnd)
+pub handles_request : (seat : Seat) (n : LinkNo) (s : List ℕ) (run : LinkRun) (i : Heard) (r : ReqData) (c : Bool)
+    (e : StepEnd)
     (t new : Told) (j j' : List Entry) (gone : Type 0) → i ≡ heard.Fed (fed.Request r c)
-    → Replies n s r c e gone t new j j' → Handles n s run (record run { ready = true }) i e t new j j' gone
-handles_request n s run i r c e t new j j' gone is (inl (p, w, a, x, ends, lost)) = record {
+    → Replies seat n s r c e gone t new j j' → Handles seat n s run (record run { ready = true }) i e t new j j' gone
+handles_request seat n s run i r c e t new j j' gone is (inl (p, w, a, x, ends, lost)) = record {
   change = with_sent (take x.count (reply_text p (is_head r) c));
   tells = x.tells ∙ sent_link n _ t;
   stands = λ l. (refl, refl);
   same = (refl, refl);
   others = a.0;
   after = λ l k.
-      let h : Asks s l (talk 0 n.0 j) r c run = subst (λ y. Known y s l (talk 0 n.0 j) run) is k in
-      subst (λ y. After y s (with_sent (take x.count (reply_text p (is_head r) c)) l) (talk 0 n.0 j')
+      let h : Asks s l (talk seat.0 n.0 j) r c run = subst (λ y. Known y s l (talk seat.0 n.0 j) run) is k in
+      subst (λ y. After y s (with_sent (take x.count (reply_text p (is_head r) c)) l) (talk seat.0 n.0 j')
           (record run { ready = true }) gone) (sym ends)
-      (sent_after s l (talk 0 n.0 j') (record run { ready = true }) c (reply_text p (is_head r) c) x.count w gone
+      (sent_after s l (talk seat.0 n.0 j') (record run { ready = true }) c (reply_text p (is_head r) c) x.count w gone
           x.within x.whole lost h.phase refl
-      (reading_asked s l (talk 0 n.0 j) (talk 0 n.0 j') run r c a.1.0 p h a.1.1));
+      (reading_asked s l (talk seat.0 n.0 j) (talk seat.0 n.0 j') run r c a.1.0 p h a.1.1));
 }
-handles_request n s run i r c e t new j j' gone is (inr (others, asked, same, left)) = record {
+handles_request seat n s run i r c e t new j j' gone is (inr (others, asked, same, left)) = record {
   change = λ l. l;
   tells = same ∙ same_link n t;
   stands = λ l. (refl, refl);
   same = (refl, refl);
   others = others;
   after = λ l k.
-      let h : Asks s l (talk 0 n.0 j) r c run = subst (λ y. Known y s l (talk 0 n.0 j) run) is k in
-      left_after s l (talk 0 n.0 j') (record run { ready = true }) e gone left
+      let h : Asks s l (talk seat.0 n.0 j) r c run = subst (λ y. Known y s l (talk seat.0 n.0 j) run) is k in
+      left_after s l (talk seat.0 n.0 j') (record run { ready = true }) e gone left
       (elim asked [
         | inl q ↦ subst (λ y. Carries s l y) (sym q) (carries_all s _ _ h.rest false h.reading)
-        | inr q ↦ carries_asked s l (talk 0 n.0 j) (talk 0 n.0 j') run r c q.0 h q.1
+        | inr q ↦ carries_asked s l (talk seat.0 n.0 j) (talk seat.0 n.0 j') run r c q.0 h q.1
       ]);
 }
 
@@ -153,17 +167,18 @@ refused_after s l t run rest code k (Err Fault) gone h all lost r f =
     (carries_refused s l t rest code k h r f, λ ng. absurd (ng (lost refl)))
 refused_after s l t run rest code k (Err NoMemory) gone h all lost r f = carries_refused s l t rest code k h r f
 
-pub handles_bad : (n : LinkNo) (s : List ℕ) (run : LinkRun) (i : Heard) (code : ℕ) (w : Result (Unit {0}) Failed)
+pub handles_bad : (seat : Seat) (n : LinkNo) (s : List ℕ) (run : LinkRun) (i : Heard) (code : ℕ)
+    (w : Result (Unit {0}) Failed)
     (t new : Told) (j : List Entry) (gone : Type 0) → i ≡ heard.Fed (fed.Bad code) → (IsErrOf w Fault → gone)
-    → Sends n (tail_text (Some code)) w t new → Handles n s run run i (end_of w true) t new j j gone
-handles_bad n s run i code w t new j gone is lost x = record {
+    → Sends n (tail_text (Some code)) w t new → Handles seat n s run run i (end_of w true) t new j j gone
+handles_bad seat n s run i code w t new j gone is lost x = record {
   change = with_sent (take x.count (tail_text (Some code)));
   tells = x.tells ∙ sent_link n _ t;
   stands = λ l. (refl, refl);
   same = (refl, refl);
   others = λ k ne. refl;
   after = λ l k.
-      let h : Known (heard.Fed (fed.Bad code)) s l (talk 0 n.0 j) run =
-          subst (λ y. Known y s l (talk 0 n.0 j) run) is k in
-      refused_after s l (talk 0 n.0 j) run h.0 code x.count w gone x.within x.whole lost h.1 h.2;
+      let h : Known (heard.Fed (fed.Bad code)) s l (talk seat.0 n.0 j) run =
+          subst (λ y. Known y s l (talk seat.0 n.0 j) run) is k in
+      refused_after s l (talk seat.0 n.0 j) run h.0 code x.count w gone x.within x.whole lost h.1 h.2;
 }

@@ -6,6 +6,7 @@ use Rattle.wd_base.specs.declared.config.Addr.{Addr}
 use Rattle.wd_base.specs.declared.config.Config.{Config}
 use Rattle.wd_base.specs.declared.config.Socket.{Socket}
 use Rattle.wd_base.specs.declared.ids.LinkNo.{LinkNo}
+use Rattle.wd_base.specs.declared.ids.Seat.{Seat}
 use Rattle.wd_machine.specs.declared.journal.Entry.{Entry}
 use Rattle.wd_ports.specs.declared.told.Faults.{Faults}
 use Rattle.wd_ports.specs.Told.{Told, IsNewPort}
@@ -31,14 +32,15 @@ listens_more first t new ss i s h e so_far tells =
     tells ∙ ap (λ (x : Told). record x { sockets = x.sockets ++ s.address ∷ [] }) so_far
         ∙ ap (λ all. record first { sockets = all }) (sym (addresses_next ss i s h e))
 
-failed_holds : (world : Config) (o : Outcome) (t : Told) (gone : LinkNo → Type 0) (f : Faults) (entries : List Entry)
-    → ListenEnd (addresses world.sockets) t f o → OutcomeHolds world o t gone f entries
-failed_holds world outcome.Done t gone f entries h = absurd h
-failed_holds world (outcome.Checked services sockets) t gone f entries h = h
-failed_holds world (outcome.Refused why) t gone f entries h = h
-failed_holds world (outcome.NoPort seat) t gone f entries h = h
-failed_holds world (outcome.NoListen address) t gone f entries h = h
-failed_holds world outcome.NoMemory t gone f entries h = h
+failed_holds : (seat : Seat) (world : Config) (o : Outcome) (t : Told) (gone : LinkNo → Type 0) (f : Faults)
+    (entries : List Entry)
+    → ListenEnd (addresses world.sockets) t f o → OutcomeHolds seat world o t gone f entries
+failed_holds seat world outcome.Done t gone f entries h = absurd h
+failed_holds seat world (outcome.Checked services sockets) t gone f entries h = h
+failed_holds seat world (outcome.Refused why) t gone f entries h = h
+failed_holds seat world (outcome.NoPort other) t gone f entries h = h
+failed_holds seat world (outcome.NoListen address) t gone f entries h = h
+failed_holds seat world outcome.NoMemory t gone f entries h = h
 
 -- the whole list is a front
 pub front_all : (xs all : List Addr) → xs ≡ all → IsFront xs all
@@ -58,16 +60,16 @@ front_told first t new ss i so_far same = subst (λ (x : Told). IsFront x.socket
     (front_some ss i)
 
 -- what holds of a port that could not listen
-pub not_listening : (world : Config) (o : Outcome) (first t : Told) (gone : LinkNo → Type 0) (f : Faults)
+pub not_listening : (seat : Seat) (world : Config) (o : Outcome) (first t : Told) (gone : LinkNo → Type 0) (f : Faults)
     (entries : List Entry) → IsNewPort first → entries ≡ [] → IsFront t.sockets (addresses world.sockets)
-    → Listens (addresses world.sockets) first t f (Err o) → Holds world o t gone f entries
-not_listening world o first t gone f entries new empty front (same, why) =
+    → Listens (addresses world.sockets) first t f (Err o) → Holds seat world o t gone f entries
+not_listening seat world o first t gone f entries new empty front (same, why) =
     let links : IfSome t.links (λ links. links ≡ []) =
         subst (λ ls. IfSome ls (λ links. links ≡ [])) (sym (ap (λ x. x.links) same)) new.links in
     let given : t.given ≡ 0 = ap (λ x. x.given) same ∙ new.given in
     record {
       sockets = front;
-      session = tended_session world.sockets t (λ n. ⊥) gone entries []
-          (tended_first world.sockets t (λ n. ⊥) gone entries [] refl empty links given);
-      outcome = failed_holds world o t gone f entries why;
+      session = tended_session seat world.sockets t (λ n. ⊥) gone entries []
+          (tended_first seat world.sockets t (λ n. ⊥) gone entries [] refl empty links given);
+      outcome = failed_holds seat world o t gone f entries why;
     }

@@ -2,6 +2,7 @@
 use Rattle.std.specs.Prelude.{◌≡◌, ◌⊎◌, ℕ, ◌<◌, ◌+◌, Bool, true, false, List, [], ◌∷◌, ◌++◌, map, length, take, Option}
 use Rattle.std.specs.Prelude.{Some, None, IfSome, IsSome, slice_index_or, bytes_eq, codes}
 use Rattle.wd_base.specs.declared.ids.LinkNo.{LinkNo}
+use Rattle.wd_base.specs.declared.ids.Seat.{Seat}
 use Rattle.wd_base.specs.declared.ids.SockNo.{SockNo}
 use Rattle.wd_base.specs.declared.config.Socket.{Socket}
 use Rattle.wd_base.specs.declared.http.ReqData.{ReqData}
@@ -98,19 +99,19 @@ number i = record { 0 = i + 1 }
 abbrev pub IsOutside : ℕ → ℕ → Type 0
 IsOutside count n = (n ≡ 0) ⊎ (count < n)
 
--- the links of seat 0 carry its part of the journal, and no request came over another link
-pub record Session (sockets : List Socket) (journal : List Entry) (links : List LinkState) : Type 0 where
+-- the links of the seat carry its part of the journal, and no request came over another link
+pub record Session (seat : Seat) (sockets : List Socket) (journal : List Entry) (links : List LinkState) : Type 0 where
   pub each : (i : ℕ) → i < length links
-      → CarriesFrom sockets (link_at links i).origin (link_at links i) (talk 0 (i + 1) journal)
-  pub turns : (n : ℕ) → TakesTurns 0 n journal
-  pub others : (n : ℕ) → IsOutside (length links) n → talk 0 n journal ≡ no_talk
+      → CarriesFrom sockets (link_at links i).origin (link_at links i) (talk seat.0 (i + 1) journal)
+  pub turns : (n : ℕ) → TakesTurns seat.0 n journal
+  pub others : (n : ℕ) → IsOutside (length links) n → talk seat.0 n journal ≡ no_talk
 
--- each link was shut just once, and one that is not gone carries just its line
-abbrev pub Done : List Socket → (LinkNo → Type 0) → List Entry → List LinkState → Type 0
-Done sockets gone journal links = (i : ℕ) → i < length links
-    → ((link_at links i).shuts ≡ 1) × ((gone (number i) → ⊥)
-        → WholeFrom sockets (link_at links i).origin (link_at links i) (talk 0 (i + 1) journal))
+-- each link of the seat was shut just once, and one that is not gone carries just its line
+abbrev pub Done : Seat → List Socket → (LinkNo → Type 0) → List Entry → List LinkState → Type 0
+Done seat sockets gone journal links = (i : ℕ) → i < length links → ((link_at links i).shuts ≡ 1)
+    × ((gone (number i) → ⊥)
+    → WholeFrom sockets (link_at links i).origin (link_at links i) (talk seat.0 (i + 1) journal))
 
 -- the same of each link that is told
-abbrev pub AreDone : List Socket → Told → (LinkNo → Type 0) → List Entry → Type 0
-AreDone sockets told gone journal = IfSome told.links (Done sockets gone journal)
+abbrev pub AreDone : Seat → List Socket → Told → (LinkNo → Type 0) → List Entry → Type 0
+AreDone seat sockets told gone journal = IfSome told.links (Done seat sockets gone journal)

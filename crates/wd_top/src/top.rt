@@ -1,15 +1,16 @@
-ghost use Rattle.std.specs.Prelude.{◌≡◌, ◌↔◌, [], length, None, true, false, Err, IfOk, IfErr};
+ghost use Rattle.std.specs.Prelude.{◌≡◌, ◌↔◌, ◌≤◌, [], length, None, true, false, Err, IfOk, IfErr};
 ghost use Rattle.wd_graph.specs.Links.{first_unknown};
 ghost use Rattle.wd_machine.specs.declared.journal.Head.TheVariants.{Whole};
 ghost use Rattle.wd_machine.specs.First.{AreFirst};
 ghost use Rattle.wd_plan.specs.Command.{command, is_serve};
 ghost use Rattle.wd_plan.specs.Constant.{constant_means};
 ghost use Rattle.wd_plan.specs.Prepare.{IsPrepared};
-ghost use Rattle.wd_ports.specs.Faults.{Rose};
+ghost use Rattle.wd_ports.specs.Faults.{ReadFile, Rose, part};
 ghost use Rattle.wd_top.specs.declared.outcome.Outcome.TheVariants as OutcomeIs;
 ghost use Rattle.wd_top.specs.Calls.{AskToServe, AtPorts, HasCause, IsNoCommand, KeepFiles, RefusesWords};
-ghost use Rattle.wd_top.specs.Calls.{call_over, no_command, printed_to, spoken};
-ghost use Rattle.wd_top.specs.Ended.{Comes, Ends, EndsOffline, IsCaused, IsEarly, Ran as Runs};
+ghost use Rattle.wd_top.specs.Calls.{call_offline, call_with, no_command, printed_to, spoken, the_seat};
+ghost use Rattle.wd_top.specs.Ended.{Comes, Ends, EndsOffline, IsCaused, IsEarly, IsSessionEnd, NoPortMade};
+ghost use Rattle.wd_top.specs.Ended.{Ran as Runs};
 
 use crate::board::Board;
 use crate::outcome::{Outcome, report};
@@ -17,7 +18,7 @@ use crate::session::run_ports;
 use std::alloc::Global;
 use std::sync::Wait;
 use std::thread::Threads;
-use wd_base::{NoMemory, Seq};
+use wd_base::{NoMemory, Seat, Seq};
 use wd_graph::World;
 use wd_machine::{Head, Journal};
 use wd_plan::{Constant, PlanEnd, Ready, Verb, prepare};
@@ -59,7 +60,7 @@ fn early(alloc: Global, outcome: Outcome) -> Ran
 }
 
 /// The session of what is ready.
-#[tactic(auto, using(crate::proofs::EndSteps::no_entries))]
+#[tactic(auto, using(crate::proofs::EndSteps::no_entries, crate::proofs::EndSteps::no_numbers))]
 fn serve<R: Wait, M: Maker>(
     rt: &R,
     alloc: Global,
@@ -71,13 +72,14 @@ fn serve<R: Wait, M: Maker>(
     requires first { AreFirst constant_means world isolates.items }
     requires known { first_unknown world ≡ None }
     requires ports { ports.old.items ≡ [] }
-    ensures ran { Runs world (Rose (M.failures maker.old) (M.failures maker.new)) result.outcome result.journal
-        (length ports.new.items)
-        (AtPorts M.Port.Files.told M.Port.Files.gone M.Port.Files.faults ports.new.items
+    ensures ran { Runs the_seat world result.outcome result.journal (length ports.new.items)
+        (AtPorts the_seat M.Port.Files.told M.Port.Files.gone M.Port.Files.faults ports.new.items
         result.journal.entries result.outcome world) }
-    ensures files { KeepFiles M.plan maker.old M.Port.Files.told ports.new.items }
+    ensures end { IsSessionEnd the_seat result.outcome }
+    ensures failed { NoPortMade result.outcome → Rose (M.failures maker.old) (M.failures maker.new) }
+    ensures files { KeepFiles the_seat M.plan maker.old M.Port.Files.told ports.new.items }
 {
-    match Board::new(alloc, world, isolates) {
+    match Board::new(alloc, Seat(0), world, isolates) {
         Err(NoMemory) => early(alloc, Outcome::NoMemory),
         Ok(board) => {
             let mut board = board;
@@ -102,8 +104,9 @@ fn begin<F: Files>(alloc: Global, words: &[String], files: &mut F) -> Result<Rea
     ensures asked { IfOk result (λ ready. AskToServe words.now (F.told files.old) ready.world) }
     ensures serves { IfOk result (λ ready. is_serve (command (spoken words.now)) ≡ true) }
     ensures early { IfErr result IsEarly }
-    ensures caused { IfErr result (IsCaused (call_over words.now F.told F.faults files.old files.new ⊥)) }
+    ensures caused { IfErr result (IsCaused (call_offline words.now F.told F.faults files.old files.new)) }
     ensures words { (result ≡ Err no_command) ↔ IsNoCommand words.now }
+    ensures later { part ReadFile (F.faults files.old) ≤ part ReadFile (F.faults files.new) }
     ensures tells { F.told files.new ≡ F.told files.old }
 {
     match prepare(alloc, words, files) {
@@ -126,14 +129,15 @@ fn run<R: Wait, F: Files, M: Maker>(
     ports: &mut Vec<M::Port>,
 ) -> Ran
     requires { ports.old.items ≡ [] }
-    ensures comes { Comes
-        (call_over words.now F.told F.faults files.old files.new (Rose (M.failures maker.old) (M.failures maker.new)))
-        result.outcome result.journal (length ports.new.items)
-        (AtPorts M.Port.Files.told M.Port.Files.gone M.Port.Files.faults ports.new.items
+    ensures comes { Comes the_seat
+        (call_with words.now F.told F.faults files.old files.new M.failures maker.old maker.new
+        M.Port.Files.faults ports.new.items) result.outcome result.journal (length ports.new.items)
+        (AtPorts the_seat M.Port.Files.told M.Port.Files.gone M.Port.Files.faults ports.new.items
         result.journal.entries result.outcome) }
     ensures words { (result.outcome ≡ no_command) ↔ IsNoCommand words.now }
+    ensures later { part ReadFile (F.faults files.old) ≤ part ReadFile (F.faults files.new) }
     ensures tells { F.told files.new ≡ F.told files.old }
-    ensures files { KeepFiles M.plan maker.old M.Port.Files.told ports.new.items }
+    ensures files { KeepFiles the_seat M.plan maker.old M.Port.Files.told ports.new.items }
 {
     match begin(alloc, words, files) {
         Err(outcome) => early(alloc, outcome),
@@ -155,11 +159,12 @@ fn run<R: Wait, F: Files, M: Maker>(
 /// for.
 pub fn offline<F: Files, K: Sink>(alloc: Global, words: &[String], files: &mut F, out: &mut K) -> u8
     requires { is_serve (command (spoken words.now)) ≡ false }
-    ensures ends { EndsOffline (call_over words.now F.told F.faults files.old files.new ⊥)
+    ensures ends { EndsOffline (call_offline words.now F.told F.faults files.old files.new)
         (printed_to K.held K.failures out.old out.new) result }
-    ensures status { HasCause (call_over words.now F.told F.faults files.old files.new ⊥)
+    ensures status { HasCause (call_offline words.now F.told F.faults files.old files.new)
         (printed_to K.held K.failures out.old out.new) result }
     ensures words { RefusesWords words.now (printed_to K.held K.failures out.old out.new) result }
+    ensures later { part ReadFile (F.faults files.old) ≤ part ReadFile (F.faults files.new) }
     ensures files { F.told files.new ≡ F.told files.old }
 {
     match begin(alloc, words, files) {
@@ -183,17 +188,20 @@ pub fn workerd<R: Threads + Wait + Sync, F: Files, M: Maker, K: Sink, G: Gate>(
     out: &mut K,
     _gate: &G,
 ) -> Ended<M::Port>
-    ensures ends { Ends
-        (call_over words.now F.told F.faults files.old files.new (Rose (M.failures maker.old) (M.failures maker.new)))
+    ensures ends { Ends the_seat
+        (call_with words.now F.told F.faults files.old files.new M.failures maker.old maker.new
+        M.Port.Files.faults result.ports.items)
         (printed_to K.held K.failures out.old out.new) result.status result.journal (length result.ports.items)
-        (AtPorts M.Port.Files.told M.Port.Files.gone M.Port.Files.faults result.ports.items
+        (AtPorts the_seat M.Port.Files.told M.Port.Files.gone M.Port.Files.faults result.ports.items
         result.journal.entries) }
     ensures status { HasCause
-        (call_over words.now F.told F.faults files.old files.new (Rose (M.failures maker.old) (M.failures maker.new)))
+        (call_with words.now F.told F.faults files.old files.new M.failures maker.old maker.new
+        M.Port.Files.faults result.ports.items)
         (printed_to K.held K.failures out.old out.new) result.status }
     ensures words { RefusesWords words.now (printed_to K.held K.failures out.old out.new) result.status }
+    ensures later { part ReadFile (F.faults files.old) ≤ part ReadFile (F.faults files.new) }
     ensures files { F.told files.new ≡ F.told files.old }
-    ensures disks { KeepFiles M.plan maker.old M.Port.Files.told result.ports.items }
+    ensures disks { KeepFiles the_seat M.plan maker.old M.Port.Files.told result.ports.items }
 {
     let mut ports = Vec::new(alloc);
     let ran = run(rt, alloc, words, files, maker, &mut ports);

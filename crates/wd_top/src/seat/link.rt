@@ -166,9 +166,9 @@ fn reply_to<P: Port, I: Isolate>(
     close: bool,
 ) -> StepEnd
     requires usable { P.usable port.old link }
-    requires socket { socket.0 < length board.old.0.sockets }
+    requires socket { socket.0 < length board.old.0.world.sockets }
     ensures replies { RepliesOn P.told P.gone link port.old port.new board.old board.new socket request close result }
-    ensures world { board.new.0 ≡ board.old.0 }
+    ensures fixed { board.new.0 ≡ board.old.0 }
     ensures keeps { Keeps (P.usable port.old) (P.side port.old) (P.usable port.new) (P.side port.new) }
     ensures stays { Stays (P.gone port.old) (P.gone port.new) }
     ensures faults { NoneFell (P.faults port.old) (P.faults port.new) }
@@ -222,10 +222,10 @@ pub fn handle<P: Port, I: Isolate>(
     heard: Heard,
 ) -> StepEnd
     requires usable { P.usable port.old link }
-    requires socket { run.old.socket.0 < length board.old.0.sockets }
+    requires socket { run.old.socket.0 < length board.old.0.world.sockets }
     requires lost { heard ≡ HeardIs.Lost → P.gone port.old link }
     ensures handles { HandlesOn P.told P.gone link port.old port.new board.old board.new run.old run.new heard result }
-    ensures world { board.new.0 ≡ board.old.0 }
+    ensures fixed { board.new.0 ≡ board.old.0 }
     ensures keeps { Keeps (P.usable port.old) (P.side port.old) (P.usable port.new) (P.side port.new) }
     ensures stays { Stays (P.gone port.old) (P.gone port.new) }
     ensures faults { NoneFell (P.faults port.old) (P.faults port.new) }

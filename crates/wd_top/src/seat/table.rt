@@ -35,9 +35,9 @@ fn tend_run<P: Port, I: Isolate>(
 ) -> Result<bool, NoMemory>
     requires usable { P.usable port.old link }
     requires open { run.old.stage ≡ StageIs.Open }
-    requires socket { run.old.socket.0 < length board.old.0.sockets }
+    requires socket { run.old.socket.0 < length board.old.0.world.sockets }
     ensures moves { MovesOn P.told P.gone link port.old port.new board.old board.new run.old run.new }
-    ensures world { board.new.0 ≡ board.old.0 }
+    ensures fixed { board.new.0 ≡ board.old.0 }
     ensures handle { run.new.stage ≡ StageIs.Open → P.usable port.new link }
     ensures keeps { KeepsOthers link (P.usable port.old) (P.side port.old) (P.usable port.new) (P.side port.new) }
     ensures stays { Stays (P.gone port.old) (P.gone port.new) }
@@ -86,7 +86,7 @@ fn tend<P: Port, I: Isolate>(
     requires small { length runs.old.items < 2 ^ 32 }
     ensures tended { IsTableOf P.told P.usable P.gone port.new board.new runs.new.items }
     ensures same { length runs.new.items ≡ length runs.old.items }
-    ensures world { board.new.0 ≡ board.old.0 }
+    ensures fixed { board.new.0 ≡ board.old.0 }
     ensures kept { Kept (P.told port.old) (P.told port.new) }
     ensures others { (i : ℕ) → i ≢ at → run_at runs.new.items i ≡ run_at runs.old.items i }
     ensures faults { NoneFell (P.faults port.old) (P.faults port.new) }
@@ -114,7 +114,7 @@ fn tend_listed<P: Port, I: Isolate>(
     requires covers { Covers live.now runs.old.items }
     ensures tended { IsTableOf P.told P.usable P.gone port.new board.new runs.new.items }
     ensures same { length runs.new.items ≡ length runs.old.items }
-    ensures world { board.new.0 ≡ board.old.0 }
+    ensures fixed { board.new.0 ≡ board.old.0 }
     ensures kept { Kept (P.told port.old) (P.told port.new) }
     ensures covers { OnOk result (Covers live.now runs.new.items) }
     ensures faults { NoneFell (P.faults port.old) (P.faults port.new) }
@@ -200,7 +200,7 @@ pub fn tend_all<P: Port, I: Isolate>(
     requires covers { Covers live.old.items runs.old.items }
     ensures tended { IsTableOf P.told P.usable P.gone port.new board.new runs.new.items }
     ensures same { length runs.new.items ≡ length runs.old.items }
-    ensures world { board.new.0 ≡ board.old.0 }
+    ensures fixed { board.new.0 ≡ board.old.0 }
     ensures kept { Kept (P.told port.old) (P.told port.new) }
     ensures within { OnOk result (AreWithin live.new.items (length runs.new.items)) }
     ensures covers { OnOk result (Covers live.new.items runs.new.items) }
@@ -265,13 +265,14 @@ pub fn take_link<P: Port, I: Isolate>(
     live: &mut Vec<usize>,
 ) -> Result<Taken, NoMemory>
     requires tended { IsTableOf P.told P.usable P.gone port.old board.now runs.old.items }
-    requires sockets { length (P.told port.old).sockets ≡ length board.now.0.sockets }
+    requires sockets { length (P.told port.old).sockets ≡ length board.now.0.world.sockets }
     requires small { length runs.old.items < 2 ^ 32 }
     requires within { AreWithin live.old.items (length runs.old.items) }
     requires covers { Covers live.old.items runs.old.items }
     ensures tended { OnOk result (IsTableOf P.told P.usable P.gone port.new board.now runs.new.items) }
     ensures small { OnOk result (length runs.new.items < 2 ^ 32) }
-    ensures session { OnErr result (IfSome (P.told port.new).links (Session board.now.0.sockets board.now.1)) }
+    ensures session { OnErr result (IfSome (P.told port.new).links
+        (Session board.now.0.seat board.now.0.world.sockets board.now.1)) }
     ensures sockets { (P.told port.new).sockets ≡ (P.told port.old).sockets }
     ensures files { SameFiles (P.told port.old) (P.told port.new) }
     ensures closed { IfOk result (λ taken. taken ≡ TakenIs.Closed → (P.told port.new).closed ≡ true) }
