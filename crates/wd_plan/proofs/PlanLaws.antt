@@ -30,7 +30,7 @@ use Rattle.wd_plan.specs.declared.refusal.Refusal.TheVariants as refusal
 use Rattle.wd_plan.specs.Folder.{folder}
 use Rattle.wd_plan.specs.Plan.{Plan, Refuses, Starts, Plans, AtAnswer, AtWish, AtFile, AtKinds, AtNames, AtScripts}
 use Rattle.wd_plan.specs.Plan.{AtConfig, MayHold, EmbedsPath, IsReading, at_script, may_go}
-use Rattle.wd_plan.specs.Prepare.{IsAskedBy, IsLateEnd, IsLateRefusal, OnEndFault, OnRefusedFault, end_of}
+use Rattle.wd_plan.specs.Prepare.{Heeds, IsAskedBy, IsLateEnd, IsLateRefusal, OnEndFault, OnRefusedFault, end_of}
 use Rattle.wd_plan.specs.Prepare.{IsRefused, fault_refusal, plan_of_end, plan_of_refusal}
 use Rattle.wd_plan.specs.Starts.{FirstRefused, are_plain}
 use Rattle.wd_plan.proofs.StartSteps.{first_one}
@@ -100,6 +100,19 @@ pub no_command : (words : List (List ℕ)) (files : Option Stored) (notice : Not
 unfolding Plans
 no_command words files notice e =
     subst (λ w. AtWish files w (Refuses (refusal.NoCommand notice))) (sym e) refl
+
+same_notice : (a b : Notice) → end.Refused (refusal.NoCommand a) ≡ end.Refused (refusal.NoCommand b) → a ≡ b
+same_notice a b e = cc
+
+no_notice : (a : Notice) → end.NoMemory ≡ end.Refused (refusal.NoCommand a) → ⊥
+no_notice a e = cc
+
+-- a notice that comes was asked for
+pub notice_asked : (w : Wish) (e : PlanEnd) (notice : Notice) → Heeds w (Err e)
+    → e ≡ end.Refused (refusal.NoCommand notice) → w ≡ shows notice
+notice_asked (shows other) e notice (inl is) at = ap shows (same_notice other notice (sym is ∙ at))
+notice_asked (shows other) e notice (inr is) at = absurd (no_notice notice (sym is ∙ at))
+notice_asked (runs asked) e notice late at = absurd (subst IsLateEnd at late)
 
 -- what is to be served was asked to be
 pub serve_asked : (asked : Option Asked) (v : Verb) → IsAskedBy asked v → v ≡ verb.Serve → is_serve asked ≡ true

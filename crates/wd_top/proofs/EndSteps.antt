@@ -1,33 +1,38 @@
 -- How a call ends, by its outcome.
 use Rattle.std.specs.Prelude.{◌≡◌, ◌⊎◌, ℕ, ◌<◌, true, List, [], ◌∷◌, length, Option, Some, None, IfSome, All, refl, suc}
 use Rattle.std.specs.Prelude.{◌≤◌}
-use Rattle.std.proofs.Common.{sym, ap, subst, ◌∙◌, inl, inr, arith}
+use Rattle.std.proofs.Common.{sym, ap, subst, ◌∙◌, inl, inr, arith, Ok, Err}
+use Rattle.std.proofs.Math.Seq.{take-nil}
 use Rattle.wd_base.specs.declared.config.Addr.{Addr}
 use Rattle.wd_base.specs.declared.config.Config.{Config}
 use Rattle.wd_base.specs.declared.ids.LinkNo.{LinkNo}
 use Rattle.wd_base.specs.declared.ids.Seat.{Seat}
+use Rattle.wd_command.specs.declared.command.Verb.{Verb}
+use Rattle.wd_command.specs.declared.command.Verb.TheVariants as verb
+use Rattle.wd_command.specs.declared.notice.Notice.{Notice}
+use Rattle.wd_command.specs.Command.{Wish, runs, shows, wish}
+use Rattle.wd_command.specs.Notice.{status_of as notice_status, text_of as notice_text}
 use Rattle.wd_machine.specs.declared.journal.Entry.{Entry}
 use Rattle.wd_machine.specs.declared.journal.Head.TheVariants.{Whole}
 use Rattle.wd_machine.specs.declared.journal.Journal.{Journal}
 use Rattle.wd_machine.specs.Runs.{legal}
-use Rattle.wd_plan.specs.declared.command.Verb.{Verb}
-use Rattle.wd_plan.specs.declared.command.Verb.TheVariants as verb
 use Rattle.wd_plan.specs.declared.ready.PlanEnd.{PlanEnd}
 use Rattle.wd_plan.specs.declared.ready.PlanEnd.TheVariants as end
+use Rattle.wd_plan.specs.declared.ready.Ready.{Ready}
 use Rattle.wd_plan.specs.declared.refusal.Refusal.{Refusal}
 use Rattle.wd_plan.specs.declared.refusal.Refusal.TheVariants as refusal
-use Rattle.wd_plan.specs.Command.{command}
 use Rattle.wd_plan.specs.Constant.{constant_means}
 use Rattle.wd_plan.specs.Plan.{Plan, Refuses, Starts, Plans, IsReadPath}
-use Rattle.wd_plan.specs.Prepare.{OnEndFault, OnRefusedFault, plan_of_end, plan_of_refusal}
+use Rattle.wd_plan.specs.Prepare.{Heeds, OnEndFault, OnRefusedFault, plan_of_end, plan_of_refusal}
 use Rattle.wd_plan.proofs.PlanLaws.{no_command, plans_one}
 use Rattle.wd_ports.specs.declared.told.Faults.{Faults}
 use Rattle.wd_ports.specs.Faults.{Rose}
+use Rattle.wd_ports.specs.Sink.{with_bytes}
 use Rattle.wd_ports.specs.Told.{Told, Stored}
 use Rattle.wd_top.specs.declared.outcome.Outcome.{Outcome}
 use Rattle.wd_top.specs.declared.outcome.Outcome.TheVariants as outcome
 use Rattle.wd_top.specs.Board.{IsOver}
-use Rattle.wd_top.specs.Calls.{AtPorts, ListenFailed}
+use Rattle.wd_top.specs.Calls.{AtPorts, IsShown, ListenFailed, OnNotice}
 use Rattle.wd_top.specs.Ended.{Call, Asks, IsCaused, RefusedFor, IsSessionEnd, IsEarly, HasPort, NoPortMade, Caused}
 use Rattle.wd_top.specs.Ended.{IsEmpty, Ran, Comes, status_for, IsStatus}
 use Rattle.wd_top.specs.Outcome.{status_of, Reports}
@@ -115,7 +120,7 @@ early_lift : (words : List (List ℕ)) (files : Option Stored) (rr mr mr' lf lf'
     → Caused (call_by words files rr mr' lf') world o
 early_lift words files rr mr mr' lf lf' world outcome.Done e caused = absurd e
 early_lift words files rr mr mr' lf lf' world (outcome.Checked services sockets) e caused = caused
-early_lift words files rr mr mr' lf lf' world (outcome.Refused refusal.CommandLine) e caused = caused
+early_lift words files rr mr mr' lf lf' world (outcome.Refused (refusal.NoCommand notice)) e caused = caused
 early_lift words files rr mr mr' lf lf' world (outcome.Refused (refusal.MissingFile path)) e caused = caused
 early_lift words files rr mr mr' lf lf' world (outcome.Refused (refusal.FileFault path)) e caused = caused
 early_lift words files rr mr mr' lf lf' world (outcome.Refused (refusal.Config fault)) e caused = caused
@@ -128,24 +133,26 @@ early_lift words files rr mr mr' lf lf' world outcome.NoMemory e caused = tt
 -- why nothing was served or checked
 refused_caused : (words : List (List ℕ)) (files : Option Stored) (rr mr lf : Type 0) (why : Refusal)
     → IfSome (plan_of_refusal why) (Plans words files) → OnRefusedFault why (λ path. rr)
-    → OnRefusedFault why (IsReadPath words files) → (why ≡ refusal.CommandLine → command words ≡ None)
+    → OnRefusedFault why (IsReadPath words files)
+    → ((notice : Notice) → why ≡ refusal.NoCommand notice → wish words ≡ shows notice)
     → IsCaused (call_by words files rr mr lf) (outcome.Refused why)
-refused_caused words files rr mr lf refusal.CommandLine plan failed path none = (no_world, none refl)
-refused_caused words files rr mr lf (refusal.MissingFile name) plan failed path none = (no_world, plan)
-refused_caused words files rr mr lf (refusal.FileFault name) plan failed path none = (no_world, (failed, path))
-refused_caused words files rr mr lf (refusal.Config fault) plan failed path none = (no_world, plan)
-refused_caused words files rr mr lf (refusal.Link fault) plan failed path none = (no_world, plan)
-refused_caused words files rr mr lf (refusal.Script script) plan failed path none = (no_world, plan)
+refused_caused words files rr mr lf (refusal.NoCommand notice) plan failed path asks = (no_world, asks notice refl)
+refused_caused words files rr mr lf (refusal.MissingFile name) plan failed path asks = (no_world, plan)
+refused_caused words files rr mr lf (refusal.FileFault name) plan failed path asks = (no_world, (failed, path))
+refused_caused words files rr mr lf (refusal.Config fault) plan failed path asks = (no_world, plan)
+refused_caused words files rr mr lf (refusal.Link fault) plan failed path asks = (no_world, plan)
+refused_caused words files rr mr lf (refusal.Script script) plan failed path asks = (no_world, plan)
 
 pub end_caused : (words : List (List ℕ)) (files : Option Stored) (rr mr lf : Type 0) (e : PlanEnd) (why : Refusal)
     → e ≡ end.Refused why → IfSome (plan_of_end e) (Plans words files) → OnEndFault e (λ path. rr)
-    → OnEndFault e (IsReadPath words files) → (e ≡ end.Refused refusal.CommandLine → command words ≡ None)
+    → OnEndFault e (IsReadPath words files)
+    → ((notice : Notice) → e ≡ end.Refused (refusal.NoCommand notice) → wish words ≡ shows notice)
     → IsCaused (call_by words files rr mr lf) (outcome.Refused why)
-end_caused words files rr mr lf e why is plan failed path none =
+end_caused words files rr mr lf e why is plan failed path asks =
     refused_caused words files rr mr lf why
     (subst (λ x. IfSome (plan_of_end x) (Plans words files)) is plan)
     (subst (λ x. OnEndFault x (λ p. rr)) is failed) (subst (λ x. OnEndFault x (IsReadPath words files)) is path)
-    (λ line. none (is ∙ ap (λ w. end.Refused w) line))
+    (λ notice shown. asks notice (is ∙ ap (λ w. end.Refused w) shown))
 
 -- what was checked
 pub checked_caused : (words : List (List ℕ)) (files : Option Stored) (rr mr lf : Type 0) (v : Verb) (world : Config)
@@ -217,8 +224,9 @@ by_plan call s sr plan asked status told asks is h =
 by_refusal : (call : Call) (s : Stored) (sr : Type 0) (why : Refusal) (asked : Plan) (status : ℕ)
     → call.files ≡ Some s → RefusedFor call why → Asks call asked → status ≡ status_of (outcome.Refused why)
     → status_for call asked status ⊎ Else call sr status
-by_refusal call s sr refusal.CommandLine asked status told caused asks e =
-    by_plan call s sr (Refuses refusal.CommandLine) asked status told asks (no_command call.words call.files caused) e
+by_refusal call s sr (refusal.NoCommand notice) asked status told caused asks e =
+    by_plan call s sr (Refuses (refusal.NoCommand notice)) asked status told asks
+    (no_command call.words call.files notice caused) e
 by_refusal call s sr (refusal.MissingFile path) asked status told caused asks e =
     by_plan call s sr (Refuses (refusal.MissingFile path)) asked status told asks caused e
 by_refusal call s sr (refusal.FileFault path) asked status told caused asks e = inr (inl (e, caused.0))
@@ -265,15 +273,66 @@ status_is call held held' count count' status o caused reports =
           by_report call s held held' count count' status o caused.0 asked told caused.1 asks reports
     ] refl
 
--- where the words are no command line
-pub status_without : (held held' : Option (List ℕ)) (count count' status : ℕ) (o : Outcome)
-    → o ≡ outcome.Refused refusal.CommandLine → Reports o status held held' count count' → (status ≡ 1)
+-- ---- notices
+
+same_refusal : (a b : Refusal) → end.Refused a ≡ end.Refused b → a ≡ b
+same_refusal a b e = cc
+
+no_refusal : (a : Refusal) → end.NoMemory ≡ end.Refused a → ⊥
+no_refusal a e = cc
+
+-- want of memory is an answer to each wish
+pub shown_none : (w : Wish) → OnNotice w (λ notice. IsShown notice outcome.NoMemory)
+shown_none (shows notice) = inr refl
+shown_none (runs asked) = tt
+
+-- what is refused is the notice, where one is asked for
+pub shown_refused : (w : Wish) (e : PlanEnd) (why : Refusal) → e ≡ end.Refused why → Heeds w (Err e)
+    → OnNotice w (λ notice. IsShown notice (outcome.Refused why))
+shown_refused (shows notice) e why is (inl at) = inl (ap outcome.Refused (same_refusal _ _ (sym is ∙ at)))
+shown_refused (shows notice) e why is (inr at) = absurd (no_refusal why (sym at ∙ is))
+shown_refused (runs asked) e why is late = tt
+
+-- where something is ready, no notice was asked for
+pub shown_ready : (w : Wish) (ready : Ready) (P : Notice → Type 0) → Heeds w (Ok ready) → OnNotice w P
+shown_ready (shows notice) ready P h = absurd h
+shown_ready (runs asked) ready P h = tt
+
+-- where no notice was asked for, anything holds of one
+pub no_notice : (w : Wish) (P : Notice → Type 0) → OnNotice w (λ notice. ⊥) → OnNotice w P
+no_notice (shows notice) P h = absurd h
+no_notice (runs asked) P h = tt
+
+-- nothing was printed: the sink failed, or memory was wanting
+abbrev Unless : Notice → ℕ → ℕ → ℕ → Type 0
+Unless notice status count count' = ((status ≡ notice_status notice) × (0 ≡ length (notice_text notice)))
     ⊎ (((status ≡ 4) × Rose count count') ⊎ (status ≡ 9))
-status_without held held' count count' status o e reports =
-    elim reports.which as (λ w. (status ≡ 1) ⊎ (((status ≡ 4) × Rose count count') ⊎ (status ≡ 9))) [
-      | inl h ↦ inl (h.0 ∙ ap status_of e)
-      | inr h ↦ inr h
-    ]
+
+reports_shown : (notice : Notice) (held held' : Option (List ℕ)) (count count' status : ℕ) (o : Outcome)
+    → IsShown notice o → Reports o status held held' count count'
+    → Reports (outcome.Refused (refusal.NoCommand notice)) status held held' count count'
+reports_shown notice held held' count count' status o (inl is) reports =
+    subst (λ x. Reports x status held held' count count') is reports
+reports_shown notice held held' count count' status o (inr is) reports =
+    let at : Reports outcome.NoMemory status held held' count count' =
+        subst (λ x. Reports x status held held' count count') is reports in
+    record {
+      printed = 0;
+      tells = at.tells ∙ ap (λ text. with_bytes text held) (take-nil at.printed);
+      later = at.later;
+      which = elim at.which as (λ w. Unless notice status count count') [
+        | inl h ↦ inr (inr h.0)
+        | inr h ↦ inr h
+      ];
+    }
+
+-- what is printed where a notice is asked for
+pub reports_notice : (w : Wish) (held held' : Option (List ℕ)) (count count' status : ℕ) (o : Outcome)
+    → OnNotice w (λ notice. IsShown notice o) → Reports o status held held' count count'
+    → OnNotice w (λ notice. Reports (outcome.Refused (refusal.NoCommand notice)) status held held' count count')
+reports_notice (shows notice) held held' count count' status o h reports =
+    reports_shown notice held held' count count' status o h reports
+reports_notice (runs asked) held held' count count' status o h reports = tt
 
 -- an empty list has no item
 pub no_item : {X : Type 0} (xs : List X) (k : ℕ) → xs ≡ [] → suc k ≤ length xs → ⊥

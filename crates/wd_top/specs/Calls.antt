@@ -1,13 +1,14 @@
 -- What a call is given and what it leaves, by what its file store, its maker, its ports and its sink tell.
-use Rattle.std.specs.Prelude.{◌≡◌, ◌⊎◌, ℕ, ◌<◌, List, [], ◌∷◌, map, Option, None, IfSome, All}
+use Rattle.std.specs.Prelude.{◌≡◌, ◌⊎◌, ℕ, ◌<◌, List, [], ◌∷◌, map, Option, IfSome, All}
 use Rattle.std.specs.String.{String, string_bytes}
 use Rattle.wd_base.specs.declared.config.Config.{Config}
 use Rattle.wd_base.specs.declared.ids.LinkNo.{LinkNo}
 use Rattle.wd_base.specs.declared.ids.Seat.{Seat}
+use Rattle.wd_command.specs.declared.command.Verb.TheVariants as verb
+use Rattle.wd_command.specs.declared.notice.Notice.{Notice}
+use Rattle.wd_command.specs.Command.{Wish, runs, shows, wish}
 use Rattle.wd_machine.specs.declared.journal.Entry.{Entry}
-use Rattle.wd_plan.specs.declared.command.Verb.TheVariants as verb
 use Rattle.wd_plan.specs.declared.refusal.Refusal.TheVariants as refusal
-use Rattle.wd_plan.specs.Command.{command}
 use Rattle.wd_plan.specs.Plan.{Plans, Starts}
 use Rattle.wd_ports.specs.declared.told.Faults.{Faults}
 use Rattle.wd_ports.specs.Faults.{Listen, ReadFile, Rose, RoseIn, part}
@@ -15,6 +16,7 @@ use Rattle.wd_ports.specs.Told.{Told}
 use Rattle.wd_top.specs.declared.outcome.Outcome.{Outcome}
 use Rattle.wd_top.specs.declared.outcome.Outcome.TheVariants as outcome
 use Rattle.wd_top.specs.Ended.{Call, Printed, Holds, IsStatus}
+use Rattle.wd_top.specs.Outcome.{Reports}
 use Rattle.wd_top.specs.Table.{SameFiles}
 
 -- the one seat of a call
@@ -25,13 +27,18 @@ the_seat = record { 0 = 0 }
 abbrev pub spoken : {Z : Type 0} → List (String Z) → List (List ℕ)
 spoken words = map string_bytes words
 
--- the words are no command line
-abbrev pub IsNoCommand : {Z : Type 0} → List (String Z) → Type 0
-IsNoCommand words = command (spoken words) ≡ None
+-- this holds of the notice, where one is asked for
+abbrev pub OnNotice : Wish → (Notice → Type 0) → Type 0
+OnNotice (shows notice) P = P notice
+OnNotice (runs asked) P = Unit {0}
 
--- how such words come out
-abbrev pub no_command : Outcome
-no_command = outcome.Refused refusal.CommandLine
+-- what holds of the notice that the words ask for, where they are no command
+abbrev pub ForNotice : {Z : Type 0} → List (String Z) → (Notice → Type 0) → Type 0
+ForNotice words P = OnNotice (wish (spoken words)) P
+
+-- how words come out that ask for this notice: it is shown, or memory is wanting
+abbrev pub IsShown : Notice → Outcome → Type 0
+IsShown notice o = (o ≡ outcome.Refused (refusal.NoCommand notice)) ⊎ (o ≡ outcome.NoMemory)
 
 -- a port of the list failed to listen
 abbrev pub ListenFailed : {P : Type 0} → (P → Faults) → List P → Type 0
@@ -86,7 +93,7 @@ abbrev pub HasCause : Call → Printed → ℕ → Type 0
 HasCause call printed status =
     IfSome call.files (λ _. IsStatus call (Rose printed.failures_before printed.failures_after) status)
 
--- words that are no command line come to status 1, but for 4, where the sink failed, and 9
-abbrev pub RefusesWords : {Z : Type 0} → List (String Z) → Printed → ℕ → Type 0
-RefusesWords words printed status = IsNoCommand words
-    → (status ≡ 1) ⊎ (((status ≡ 4) × Rose printed.failures_before printed.failures_after) ⊎ (status ≡ 9))
+-- a call for this notice prints its text and comes to its status, but for 4, where the sink failed, and 9
+abbrev pub ReportsNotice : Printed → ℕ → Notice → Type 0
+ReportsNotice printed status notice = Reports (outcome.Refused (refusal.NoCommand notice)) status printed.before
+    printed.after printed.failures_before printed.failures_after

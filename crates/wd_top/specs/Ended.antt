@@ -5,14 +5,14 @@ use Rattle.wd_base.specs.declared.config.Addr.{Addr}
 use Rattle.wd_base.specs.declared.config.Config.{Config}
 use Rattle.wd_base.specs.declared.ids.LinkNo.{LinkNo}
 use Rattle.wd_base.specs.declared.ids.Seat.{Seat}
+use Rattle.wd_command.specs.declared.command.Verb.TheVariants as verb
+use Rattle.wd_command.specs.Command.{shows, wish}
 use Rattle.wd_machine.specs.declared.journal.Entry.{Entry}
 use Rattle.wd_machine.specs.declared.journal.Head.TheVariants.{Whole}
 use Rattle.wd_machine.specs.declared.journal.Journal.{Journal}
 use Rattle.wd_machine.specs.Runs.{legal}
-use Rattle.wd_plan.specs.declared.command.Verb.TheVariants as verb
 use Rattle.wd_plan.specs.declared.refusal.Refusal.{Refusal}
 use Rattle.wd_plan.specs.declared.refusal.Refusal.TheVariants as refusal
-use Rattle.wd_plan.specs.Command.{command}
 use Rattle.wd_plan.specs.Constant.{constant_means}
 use Rattle.wd_plan.specs.Plan.{Plan, Refuses, Starts, Plans, IsReadPath}
 use Rattle.wd_plan.specs.Refusal.{status_of as refusal_status}
@@ -127,7 +127,7 @@ Asks call plan = Plans call.words call.files plan
 
 -- the cause of a refusal
 abbrev pub RefusedFor : Call → Refusal → Type 0
-RefusedFor call refusal.CommandLine = command call.words ≡ None
+RefusedFor call (refusal.NoCommand notice) = wish call.words ≡ shows notice
 RefusedFor call (refusal.FileFault path) = call.read_failed × IsReadPath call.words call.files path
 RefusedFor call why = Asks call (Refuses why)
 

@@ -656,7 +656,7 @@ fn offline_call(alloc: Global, around: &Around<'_>) -> Result<(u8, Bytes), NoMem
     let words = words_of(alloc, around.words)?;
     let mut files = files_of(alloc, around)?;
     let mut sink = sink_of(alloc, None)?;
-    if serves(words.as_slice()) {
+    if serves(alloc, words.as_slice())? {
         return Ok((9, sink.inner.bytes));
     }
     let status = offline(alloc, words.as_slice(), &mut files, &mut sink);

@@ -1,14 +1,14 @@
-ghost use Rattle.std.specs.Prelude.{◌≡◌, ◌↔◌, ◌≤◌, [], length, None, true, false, Err, IfOk, IfErr};
+ghost use Rattle.std.specs.Prelude.{◌≡◌, ◌≤◌, [], length, true, false, IfOk, IfErr, IsErrAnd};
+ghost use Rattle.wd_command.specs.Command.{command, is_serve};
 ghost use Rattle.wd_graph.specs.Links.{first_unknown};
 ghost use Rattle.wd_machine.specs.declared.journal.Head.TheVariants.{Whole};
 ghost use Rattle.wd_machine.specs.First.{AreFirst};
-ghost use Rattle.wd_plan.specs.Command.{command, is_serve};
 ghost use Rattle.wd_plan.specs.Constant.{constant_means};
 ghost use Rattle.wd_plan.specs.Prepare.{IsPrepared};
 ghost use Rattle.wd_ports.specs.Faults.{ReadFile, Rose, part};
 ghost use Rattle.wd_top.specs.declared.outcome.Outcome.TheVariants as OutcomeIs;
-ghost use Rattle.wd_top.specs.Calls.{AskToServe, AtPorts, HasCause, IsNoCommand, KeepFiles, RefusesWords};
-ghost use Rattle.wd_top.specs.Calls.{call_offline, call_with, no_command, printed_to, spoken, the_seat};
+ghost use Rattle.wd_top.specs.Calls.{AskToServe, AtPorts, ForNotice, HasCause, IsShown, KeepFiles, ReportsNotice};
+ghost use Rattle.wd_top.specs.Calls.{call_offline, call_with, printed_to, spoken, the_seat};
 ghost use Rattle.wd_top.specs.Ended.{Comes, Ends, EndsOffline, IsCaused, IsEarly, IsSessionEnd, NoPortMade};
 ghost use Rattle.wd_top.specs.Ended.{Ran as Runs};
 
@@ -19,18 +19,19 @@ use std::alloc::Global;
 use std::sync::Wait;
 use std::thread::Threads;
 use wd_base::{NoMemory, Seat, Seq};
+use wd_command::Verb;
 use wd_graph::World;
 use wd_machine::{Head, Journal};
-use wd_plan::{Constant, PlanEnd, Ready, Verb, prepare};
+use wd_plan::{Constant, PlanEnd, Ready, prepare};
 use wd_ports::{Files, Gate, Maker, Sink};
 
 /// How a call ended.
 #[derive(Drop)]
 pub struct Ended<P> {
-    /// The exit status: 0 where the session is done or the configuration was checked, 1 where the
-    /// words are no command line, 2 where the configuration is refused, 3 where a script is, 4
-    /// where the sink failed, 5 where a file is missing or a read failed, 7 where no port could be
-    /// made or one could not listen, and 9 for want of memory.
+    /// The exit status: 0 where the session is done, the configuration was checked, or help or the
+    /// version was asked for, 1 where the words are no command line, 2 where the configuration is
+    /// refused, 3 where a script is, 4 where the sink failed, 5 where a file is missing or a read
+    /// failed, 7 where no port could be made or one could not listen, and 9 for want of memory.
     pub status: u8,
     /// The journal of the session; empty where there was none.
     pub journal: Journal,
@@ -105,7 +106,7 @@ fn begin<F: Files>(alloc: Global, words: &[String], files: &mut F) -> Result<Rea
     ensures serves { IfOk result (λ ready. is_serve (command (spoken words.now)) ≡ true) }
     ensures early { IfErr result IsEarly }
     ensures caused { IfErr result (IsCaused (call_offline words.now F.told F.faults files.old files.new)) }
-    ensures words { (result ≡ Err no_command) ↔ IsNoCommand words.now }
+    ensures words { ForNotice words.now (λ notice. IsErrAnd result (IsShown notice)) }
     ensures later { part ReadFile (F.faults files.old) ≤ part ReadFile (F.faults files.new) }
     ensures tells { F.told files.new ≡ F.told files.old }
 {
@@ -134,7 +135,7 @@ fn run<R: Wait, F: Files, M: Maker>(
         M.Port.Files.faults ports.new.items) result.outcome result.journal (length ports.new.items)
         (AtPorts the_seat M.Port.Files.told M.Port.Files.gone M.Port.Files.faults ports.new.items
         result.journal.entries result.outcome) }
-    ensures words { (result.outcome ≡ no_command) ↔ IsNoCommand words.now }
+    ensures words { ForNotice words.now (λ notice. IsShown notice result.outcome) }
     ensures later { part ReadFile (F.faults files.old) ≤ part ReadFile (F.faults files.new) }
     ensures tells { F.told files.new ≡ F.told files.old }
     ensures files { KeepFiles the_seat M.plan maker.old M.Port.Files.told ports.new.items }
@@ -152,8 +153,9 @@ fn run<R: Wait, F: Files, M: Maker>(
 }
 
 /// Does what a command line asks for that serves nothing, without the program's own name:
-/// `check <config> [<const>]`, or a line that is refused. It reads and links the configuration,
-/// starts its scripts, and prints `ok <services> <sockets>`, or the one line of the first fault.
+/// `check <config> [<const>]`, `--help`, `--version`, or a line that is refused. For `check` it reads
+/// and links the configuration, starts its scripts, and prints `ok <services> <sockets>`, or the one
+/// line of the first fault.
 ///
 /// The answer is the exit status: 0, or as in [`Ended`]. No file is changed, and nothing is waited
 /// for.
@@ -163,7 +165,7 @@ pub fn offline<F: Files, K: Sink>(alloc: Global, words: &[String], files: &mut F
         (printed_to K.held K.failures out.old out.new) result }
     ensures status { HasCause (call_offline words.now F.told F.faults files.old files.new)
         (printed_to K.held K.failures out.old out.new) result }
-    ensures words { RefusesWords words.now (printed_to K.held K.failures out.old out.new) result }
+    ensures words { ForNotice words.now (ReportsNotice (printed_to K.held K.failures out.old out.new) result) }
     ensures later { part ReadFile (F.faults files.old) ≤ part ReadFile (F.faults files.new) }
     ensures files { F.told files.new ≡ F.told files.old }
 {
@@ -198,7 +200,8 @@ pub fn workerd<R: Threads + Wait + Sync, F: Files, M: Maker, K: Sink, G: Gate>(
         (call_with words.now F.told F.faults files.old files.new M.failures maker.old maker.new
         M.Port.Files.faults result.ports.items)
         (printed_to K.held K.failures out.old out.new) result.status }
-    ensures words { RefusesWords words.now (printed_to K.held K.failures out.old out.new) result.status }
+    ensures words { ForNotice words.now
+        (ReportsNotice (printed_to K.held K.failures out.old out.new) result.status) }
     ensures later { part ReadFile (F.faults files.old) ≤ part ReadFile (F.faults files.new) }
     ensures files { F.told files.new ≡ F.told files.old }
     ensures disks { KeepFiles the_seat M.plan maker.old M.Port.Files.told result.ports.items }
