@@ -1,10 +1,11 @@
 -- The program's options and words, as clap is given them.
 use Rattle.std.specs.Prelude.{◌≡◌, [], Some, codes, false, true}
-use Rattle.clap.specs.Words.{App, Shape, Rule, Text, app_of, fields_of, new_app, new_rule, rule_of, with_rule}
+use Rattle.clap.specs.Words.{App, Shape, Rule, Text, app_of, new_app, new_rule, rule_of, with_rule}
 use Rattle.clap.specs.Words.{with_subcommand}
 use Rattle.clap.specs.declared.builder.action.ArgAction.TheVariants.{SetTrue}
 use Rattle.clap.specs.declared.builder.arg.Arg.{Arg}
 use Rattle.clap.specs.declared.builder.command.Command.{Command}
+use Rattle.clap.specs.declared.builder.command.Command.TheViews.{out-Command}
 
 -- a word that stands at its place: its value is what was given there
 abbrev pub word : Text → Rule
@@ -54,4 +55,4 @@ IsArg rule arg = (rule_of arg ≡ rule) × (arg.global ≡ false)
 
 -- the command has this form, and each of its arguments holds for it alone
 abbrev pub IsApp : App → Command → Type 0
-IsApp app command = (app_of command ≡ app) × ((fields_of command).has_globals ≡ false)
+IsApp app command = (app_of command ≡ app) × ((out-Command command).has_globals ≡ false)

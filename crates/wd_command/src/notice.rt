@@ -15,7 +15,7 @@ pub enum Notice {
 impl Notice {
     /// The exit status: 0 for what was asked for, and 1 for a fault.
     pub fn status(self) -> u8
-        ensures { result ≡ status_of self.entry }
+        ensures { result ≡ status_of self }
     {
         match self {
             Notice::Help => 0,
@@ -26,7 +26,7 @@ impl Notice {
 
     /// What is printed: whole lines.
     pub fn text(self) -> &'static [u8]
-        ensures { result.now ≡ text_of self.entry }
+        ensures { result.now ≡ text_of self }
     {
         match self {
             Notice::Help => help_text(),

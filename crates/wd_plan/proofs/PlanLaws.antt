@@ -25,6 +25,7 @@ use Rattle.wd_graph.specs.Links.{first_unknown, linked}
 use Rattle.wd_graph.specs.Names.{names_differ as differ_test, has_name, same_name}
 use Rattle.wd_graph.proofs.Numbers.{one_name}
 use Rattle.wd_plan.specs.declared.ready.PlanEnd.{PlanEnd}
+use Rattle.wd_plan.specs.declared.ready.PlanEnd.TheVariants as plan_end
 use Rattle.wd_plan.specs.declared.reason.RefusedScript.{RefusedScript}
 use Rattle.wd_plan.specs.declared.refusal.Refusal.TheVariants as refusal
 use Rattle.wd_plan.specs.Folder.{folder}
@@ -101,15 +102,15 @@ unfolding Plans
 no_command words files notice e =
     subst (λ w. AtWish files w (Refuses (refusal.NoCommand notice))) (sym e) refl
 
-same_notice : (a b : Notice) → end.Refused (refusal.NoCommand a) ≡ end.Refused (refusal.NoCommand b) → a ≡ b
+same_notice : (a b : Notice) → plan_end.Refused (refusal.NoCommand a) ≡ plan_end.Refused (refusal.NoCommand b) → a ≡ b
 same_notice a b e = cc
 
-no_notice : (a : Notice) → end.NoMemory ≡ end.Refused (refusal.NoCommand a) → ⊥
+no_notice : (a : Notice) → plan_end.NoMemory ≡ plan_end.Refused (refusal.NoCommand a) → ⊥
 no_notice a e = cc
 
 -- a notice that comes was asked for
 pub notice_asked : (w : Wish) (e : PlanEnd) (notice : Notice) → Heeds w (Err e)
-    → e ≡ end.Refused (refusal.NoCommand notice) → w ≡ shows notice
+    → e ≡ plan_end.Refused (refusal.NoCommand notice) → w ≡ shows notice
 notice_asked (shows other) e notice (inl is) at = ap shows (same_notice other notice (sym is ∙ at))
 notice_asked (shows other) e notice (inr is) at = absurd (no_notice notice (sym is ∙ at))
 notice_asked (runs asked) e notice late at = absurd (subst IsLateEnd at late)

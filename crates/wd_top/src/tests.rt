@@ -6,8 +6,8 @@ use std::sync::Wait;
 use std::test::Fail;
 use std::thread::Threads;
 use wd_base::{Bytes, LinkNo, NoMemory, Numbers, Origin, ReqData, Seq, SockNo, Why};
+use wd_command::serves;
 use wd_machine::{Entry, Out};
-use wd_plan::serves;
 use wd_ports::{
     Failed, MemFiles, MemMaker, MemPort, MemSink, NoGate, PortEvent, PortPlan, Sink, Timed,
 };
