@@ -1,5 +1,5 @@
 -- Addresses to listen at and to connect to.
-use Rattle.std.specs.Prelude.{◌≡◌, ◌⊎◌, ◌<◌, ◌≤◌, ◌==◌, ◌||◌, ℕ, Bool, IsTrue, List, ◌∷◌, ◌++◌, length, codes}
+use Rattle.std.specs.Prelude.{◌≡◌, ◌⊎◌, ◌<◌, ◌≤◌, ◌==◌, ◌||◌, ℕ, Bool, IsTrue, List, ◌∷◌, ◌++◌, length, codes, ◌↔◌, Option, Some}
 use Rattle.std.specs.Char.{is_ascii_alphanumeric}
 use Rattle.std.specs.Fmt.{decimal}
 use Rattle.std.specs.List.{All}
@@ -49,3 +49,27 @@ IsNameAndPort text address = ((text ≡ address.host) × (address.port ≡ 80)) 
 pub record IsExternalAddress (text : List ℕ) (address : Addr) : Type 0 where
   pub host : IsHostName address.host
   pub written : IsNameAndPort text address
+
+-- the text is the address to listen at of this host and port
+abbrev pub IsSocket : List ℕ → List ℕ → ℕ → Type 0
+IsSocket text host port = IsSocketAddress text (record { host = host; port = port })
+
+-- the text is no address to listen at
+abbrev pub IsNoSocket : List ℕ → Type 0
+IsNoSocket text = (address : Addr) → IsSocketAddress text address → ⊥
+
+-- what was found is the address to listen at that the text is, if it is one
+abbrev pub FindsSocket : List ℕ → Option Addr → Type 0
+FindsSocket text found = (address : Addr) → (found ≡ Some address) ↔ IsSocketAddress text address
+
+-- the text is the address to connect to of this host and port
+abbrev pub IsExternal : List ℕ → List ℕ → ℕ → Type 0
+IsExternal text host port = IsExternalAddress text (record { host = host; port = port })
+
+-- the text is no address to connect to
+abbrev pub IsNoExternal : List ℕ → Type 0
+IsNoExternal text = (address : Addr) → IsExternalAddress text address → ⊥
+
+-- what was found is the address to connect to that the text is, if it is one
+abbrev pub FindsExternal : List ℕ → Option Addr → Type 0
+FindsExternal text found = (address : Addr) → (found ≡ Some address) ↔ IsExternalAddress text address

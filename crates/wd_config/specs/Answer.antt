@@ -1,8 +1,8 @@
 -- What a text means as a configuration.
-use Rattle.std.specs.Prelude.{◌≡◌, ℕ, List, [], ◌∷◌, ◌⊎◌, Option, Result, Ok, Err}
+use Rattle.std.specs.Prelude.{◌≡◌, ℕ, List, [], ◌∷◌, ◌⊎◌, Option, Result, Ok, Err, Bor}
 use Rattle.std.specs.List.{All}
 use Rattle.wd_base.specs.declared.config.Config.{Config}
-use Rattle.wd_ports.specs.Told.{Stored}
+use Rattle.wd_ports.specs.Told.{Stored, Told}
 use Rattle.capnp_text.specs.declared.tree.Decl.{Decl}
 use Rattle.capnp_text.specs.declared.reader.TextFault.{TextFault}
 use Rattle.capnp_text.specs.Fault.{IsText, IsFirstFault}
@@ -13,7 +13,7 @@ use Rattle.wd_config.specs.declared.faults.ConfigEnd.{ConfigEnd}
 use Rattle.wd_config.specs.declared.faults.ConfigEnd.TheVariants.{Fault, NoMemory}
 use Rattle.wd_config.specs.Given.{config_fault}
 use Rattle.wd_config.specs.Reading.{Read, refuse, Tells}
-use Rattle.wd_config.specs.Configured.{configured}
+use Rattle.wd_config.specs.Configured.{configured, name_given}
 
 -- the bytes are this file's text, and the file is read so
 pub record OfFile (bytes : List ℕ) (name : Option (List ℕ)) (folder : List ℕ) (files : Option Stored) (r : Read Config) : Type 0 where
@@ -36,6 +36,10 @@ abbrev pub Answered : List ℕ → Option (List ℕ) → List ℕ → Option Sto
 Answered bytes name folder files (Ok config) = (r : Read Config) × Answers bytes name folder files r × Tells r (Ok config)
 Answered bytes name folder files (Err (Fault f)) = (r : Read Config) × Answers bytes name folder files r × Tells r (Err (Fault f))
 Answered bytes name folder files (Err NoMemory) = Unit {0}
+
+-- the same for the name that is given, with the files as they are observed
+abbrev pub AnsweredTold : List ℕ → Option (Bor (List ℕ)) → List ℕ → Told → Result Config ConfigEnd → Type 0
+AnsweredTold bytes name folder told result = Answered bytes (name_given name) folder told.files result
 
 -- what is answered to what was read
 abbrev pub ended : Result Config Stop → Result Config ConfigEnd

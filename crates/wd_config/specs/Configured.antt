@@ -1,8 +1,9 @@
 -- The configuration of a file.
-use Rattle.std.specs.Prelude.{ℕ, ◌+◌, Bool, false, ◌&&◌, ◌||◌, List, [], ◌∷◌, Option, Some, None, Ok, codes, slice_get, if◌then◌else◌}
+use Rattle.std.specs.Prelude.{ℕ, ◌+◌, Bool, false, ◌&&◌, ◌||◌, List, [], ◌∷◌, Option, Some, None, Ok, codes, slice_get, if◌then◌else◌, Bor}
+use Rattle.std.specs.Option.{option_map}
 use Rattle.std.specs.Str.{bytes_eq}
 use Rattle.wd_base.specs.declared.config.Config.{Config}
-use Rattle.wd_ports.specs.Told.{Stored}
+use Rattle.wd_ports.specs.Told.{Stored, Told}
 use Rattle.capnp_text.specs.declared.tree.Decl.{Decl}
 use Rattle.capnp_text.specs.declared.tree.Decl.TheVariants as decl
 use Rattle.capnp_text.specs.declared.tree.Placed.{Placed}
@@ -170,3 +171,11 @@ configured name folder files file =
     given (chosen name file) >>= λ n.
     given (root t.constants file n) >>= λ r.
     rooted_config (record { file = file; constants = t.constants; folder = folder; files = files }) r
+
+-- the name that is given, if one is
+abbrev pub name_given : Option (Bor (List ℕ)) → Option (List ℕ)
+name_given name = option_map (λ s. s.now) name
+
+-- the same reading of the name that is given, with the files as they are observed
+abbrev pub configured_told : Option (Bor (List ℕ)) → List ℕ → Told → List Decl → Read Config
+configured_told name folder told file = configured (name_given name) folder told.files file

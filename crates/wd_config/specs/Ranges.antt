@@ -59,3 +59,7 @@ IsRange text r = IsClass text r ⊎ IsBlock text r
 -- the text begins with this part and `.`
 abbrev pub IsBegun : List ℕ → ℕ → List ℕ → Type 0
 IsBegun text n rest = (n ≤ 255) × (text ≡ decimal n ++ dot ∷ rest)
+
+-- the text begins with no part and `.`
+abbrev pub IsNotBegun : List ℕ → Type 0
+IsNotBegun text = (n : ℕ) (rest : List ℕ) → IsBegun text n rest → ⊥

@@ -368,6 +368,10 @@ with_name taken (item.Service s) = put taken s.name 0
 with_name taken (item.Socket s) = put taken s.name 0
 with_name taken _ = taken
 
+-- a list with one more item, whose name is taken if it has one
+abbrev pub with_one : Listed → Item → Listed
+with_one l i = record { items = with_item l.items i; taken = with_name l.taken i }
+
 -- one item of a list read, its name taken if it has one
 abbrev pub item_step : Reader → Placed → ListKind → Listed → Value → Read Listed
 item_step read label k l v = read l.taken label (item_shape k) v >>= λ i. done (record { items = with_item l.items i; taken = with_name l.taken i })

@@ -1,8 +1,7 @@
 ghost use Rattle.std.specs.Prelude.{◌≡◌, ◌↔◌, ℕ, Some, IsTrue, IfOk};
 ghost use Rattle.std.specs.Fmt.{decimal};
 ghost use Rattle.std.specs.Option.{MatchOption};
-ghost use Rattle.wd_base.specs.declared.config.Addr.{Addr};
-ghost use Rattle.wd_config.specs.Addresses.{IsPort, IsNamedHost, IsDotted, IsSocketHost, IsSocketAddress, is_host_byte, IsHostName, IsExternalAddress};
+ghost use Rattle.wd_config.specs.Addresses.{IsPort, IsNamedHost, IsDotted, IsSocketHost, IsNoSocket, IsSocket, FindsSocket, is_host_byte, IsHostName, IsNoExternal, IsExternal, FindsExternal};
 
 use crate::cut::split;
 use crate::numbers::number;
@@ -14,7 +13,7 @@ use wd_base::{Addr, NoMemory, Seq};
 /// IPv4 address, and is kept as it is written; the port is 1 to 65535, in decimal without a leading
 /// zero.
 pub fn socket_address(alloc: Global, text: &[u8]) -> Result<Option<Addr>, NoMemory>
-    ensures { IfOk result (λ found. (address : Addr) → (found ≡ Some address) ↔ IsSocketAddress text.now address) }
+    ensures { IfOk result (λ found. FindsSocket text.now found) }
 {
     match socket_parts(text) {
         Some((host, port)) => Ok(Some(address(alloc, host, port)?)),
@@ -26,7 +25,7 @@ pub fn socket_address(alloc: Global, text: &[u8]) -> Result<Option<Addr>, NoMemo
 /// letters, digits, `.` and `-`, and is kept as it is written; the port is as that of a socket, and
 /// 80 where none is written.
 pub fn external_address(alloc: Global, text: &[u8]) -> Result<Option<Addr>, NoMemory>
-    ensures { IfOk result (λ found. (address : Addr) → (found ≡ Some address) ↔ IsExternalAddress text.now address) }
+    ensures { IfOk result (λ found. FindsExternal text.now found) }
 {
     match external_parts(text) {
         Some((host, port)) => Ok(Some(address(alloc, host, port)?)),
@@ -42,7 +41,7 @@ fn address(alloc: Global, host: &[u8], port: u16) -> Result<Addr, NoMemory>
 }
 
 fn socket_parts(text: &[u8]) -> Option<(&[u8], u16)>
-    ensures { MatchOption result ((address : Addr) → IsSocketAddress text.now address → ⊥) (λ parts. IsSocketAddress text.now (record { host = parts.0.now; port = parts.1 })) }
+    ensures { MatchOption result (IsNoSocket text.now) (λ parts. IsSocket text.now parts.0.now parts.1) }
 {
     let (host, port) = split(text, b':')?;
     let port = port_of(port)?;
@@ -54,7 +53,7 @@ fn socket_parts(text: &[u8]) -> Option<(&[u8], u16)>
 }
 
 fn external_parts(text: &[u8]) -> Option<(&[u8], u16)>
-    ensures { MatchOption result ((address : Addr) → IsExternalAddress text.now address → ⊥) (λ parts. IsExternalAddress text.now (record { host = parts.0.now; port = parts.1 })) }
+    ensures { MatchOption result (IsNoExternal text.now) (λ parts. IsExternal text.now parts.0.now parts.1) }
 {
     match split(text, b':') {
         Some((host, port)) => {

@@ -7,7 +7,7 @@ ghost use Rattle.wd_config.specs.Given.{Gives};
 ghost use Rattle.wd_config.specs.Reading.{Comes, IsFailed, IsStopAt};
 ghost use Rattle.wd_config.specs.Leaves as leaves;
 ghost use Rattle.wd_config.specs.Values as spec;
-ghost use Rattle.wd_config.specs.Scope.{context};
+ghost use Rattle.wd_config.specs.Scope.{context, leaf_in};
 ghost use Rattle.wd_config.specs.Sound.{Sound};
 ghost use Rattle.wd_config.specs.declared.schema.Shape.TheVariants as shapes;
 
@@ -388,7 +388,7 @@ pub fn leaf_item<F: Files>(
     leaf: Leaf,
     value: &Value,
 ) -> Result<Item, Stop>
-    ensures reads { Comes (spec.leaf_item (context scope.now (F.told files.old)) taken.now label.now leaf value.now) result }
+    ensures reads { Comes (leaf_in scope.now (F.told files.old) taken.now label.now leaf value.now) result }
     ensures sound { IfOk result (Sound taken.now (shapes.Leaf leaf)) }
     ensures tells { F.told files.new ≡ F.told files.old }
     ensures later { part ReadFile (F.faults files.old) ≤ part ReadFile (F.faults files.new) }

@@ -1,6 +1,7 @@
 ghost use Rattle.std.specs.Prelude.{◌≡◌, ◌≤◌, length, take, OnOk};
 ghost use Rattle.std.specs.Option.{option_copied};
 ghost use Rattle.wd_config.specs.Given.{GivesBy};
+ghost use Rattle.wd_config.specs.Scope.{leads_to, opened_in};
 ghost use Rattle.wd_config.specs.Values as spec;
 
 use crate::faults::{RefusedKind, Stop, refuse};
@@ -30,7 +31,7 @@ fn opened<'a>(
     place: usize,
     name: &Placed,
 ) -> Result<&'a Value, Stop>
-    ensures value { GivesBy (λ v. (active.new, v.now)) (spec.opened scope.now.file.now scope.now.constants.now active.old place name.now) result }
+    ensures value { GivesBy (λ v. (active.new, v.now)) (opened_in scope.now active.old place name.now) result }
     ensures keeps { OnOk result (take (length active.old) active.new ≡ active.old) }
     ensures longer { OnOk result (length active.old ≤ length active.new) }
 {
@@ -56,7 +57,7 @@ pub fn in_place<'a>(
     active: &mut Open,
     value: &'a Value,
 ) -> Result<&'a Value, Stop>
-    ensures value { GivesBy (λ v. (active.new, v.now)) (spec.in_place scope.now.file.now scope.now.constants.now active.old value.now) result }
+    ensures value { GivesBy (λ v. (active.new, v.now)) (leads_to scope.now active.old value.now) result }
     ensures keeps { OnOk result (take (length active.old) active.new ≡ active.old) }
 {
     let mut value = value;

@@ -3,7 +3,7 @@ ghost use Rattle.std.specs.Option.{MatchOption};
 ghost use Rattle.wd_base.specs.declared.ids.Ip4.{Ip4};
 ghost use Rattle.wd_base.specs.declared.config.Range.{Range};
 ghost use Rattle.wd_base.specs.declared.config.RangeClass.{RangeClass};
-ghost use Rattle.wd_config.specs.Ranges.{IsIp4, IsRange, IsBlock, IsBegun, IsNamed};
+ghost use Rattle.wd_config.specs.Ranges.{IsIp4, IsRange, IsBlock, IsBegun, IsNamed, IsNotBegun};
 
 use crate::cut::split;
 use crate::numbers::number;
@@ -66,7 +66,7 @@ pub fn ip4(text: &[u8]) -> Option<Ip4>
 
 /// The part before the first `.`, and what is behind it.
 fn part_before(text: &[u8]) -> Option<(u32, &[u8])>
-    ensures { MatchOption result ((n : ℕ) (rest : List ℕ) → IsBegun text.now n rest → ⊥) (λ found. IsBegun text.now found.0 found.1.now) }
+    ensures { MatchOption result (IsNotBegun text.now) (λ found. IsBegun text.now found.0 found.1.now) }
 {
     let (part, rest) = split(text, b'.')?;
     let part = number(part, 255)?;

@@ -1,7 +1,6 @@
 ghost use Rattle.std.specs.Prelude.{◌≡◌, [], ◌<◌, ◌≤◌, ◌^◌, length, map, IfOk};
-ghost use Rattle.std.specs.Option.{option_map};
 ghost use Rattle.wd_base.specs.declared.config.Config.{Config as ConfigIs};
-ghost use Rattle.wd_config.specs.Answer.{Answered, Differ};
+ghost use Rattle.wd_config.specs.Answer.{AnsweredTold, Differ};
 ghost use Rattle.wd_config.specs.Answer as answer;
 ghost use Rattle.wd_config.specs.Configured as spec;
 ghost use Rattle.wd_config.specs.Given.{Gives};
@@ -86,7 +85,7 @@ fn configured<F: Files>(
     files: &mut F,
 ) -> Result<Config, Stop>
     requires { SmallFile file.now }
-    ensures reads { Comes (spec.configured (option_map (λ s. s.now) const_name.entry) folder.now (F.told files.old).files file.now) result }
+    ensures reads { Comes (spec.configured_told const_name.entry folder.now (F.told files.old) file.now) result }
     ensures differ { IfOk result (λ c. Differ (map (λ s. s.name) c.services)) }
     ensures few { IfOk result (λ c. length c.services < 2 ^ 31) }
     ensures tells { F.told files.new ≡ F.told files.old }
@@ -129,7 +128,7 @@ pub fn read<F: Files>(
 ) -> Result<Config, ConfigEnd>
     requires { length bytes.now ≤ 536870912 }
     // What is answered is what the text means, where these files are stored.
-    ensures reads { Answered bytes.now (option_map (λ s. s.now) const_name.entry) folder.now (F.told files.old).files result }
+    ensures reads { AnsweredTold bytes.now const_name.entry folder.now (F.told files.old) result }
     // A fault of an embedded file comes only where a read of these files failed.
     ensures fault { IsEmbedFault result → RoseIn ReadFile (F.faults files.old) (F.faults files.new) }
     ensures later { part ReadFile (F.faults files.old) ≤ part ReadFile (F.faults files.new) }

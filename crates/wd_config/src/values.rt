@@ -4,7 +4,7 @@ ghost use Rattle.wd_ports.specs.Faults.{part, RoseIn, ReadFile};
 ghost use Rattle.wd_config.specs.Deep.{deep, list_deep, struct_deep};
 ghost use Rattle.wd_config.specs.Given.{Gives};
 ghost use Rattle.wd_config.specs.Reading.{Comes, IsFailed};
-ghost use Rattle.wd_config.specs.Scope.{context};
+ghost use Rattle.wd_config.specs.Scope.{bare_in, bared_in, IsField, IsItem, IsList, IsShaped, IsStruct, IsValue};
 ghost use Rattle.wd_config.specs.Room.{Small, SmallFile};
 ghost use Rattle.wd_config.specs.Sound.{Sound, SoundFields, SoundItems};
 ghost use Rattle.wd_config.specs.Names.{Names as TakenNames};
@@ -83,7 +83,7 @@ fn no_items(alloc: Global, kind: ListKind) -> Listed
 
 /// The list with one more item, whose name is taken.
 fn with_one(alloc: Global, list: Listed, item: Item) -> Result<Listed, NoMemory>
-    ensures { IfOk result (λ more. more ≡ record { items = spec.with_item list.items item; taken = spec.with_name list.taken item }) }
+    ensures { IfOk result (λ more. more ≡ spec.with_one list item) }
 {
     let Listed { items, taken } = list;
     let mut taken = taken;
@@ -120,7 +120,7 @@ fn bare_field<F: Files>(
     slot: Slot,
     leaf: Leaf,
 ) -> Result<Item, Stop>
-    ensures reads { Comes (spec.bare_field (context scope.now (F.told files.old)) taken.now label.now kind value.now slot leaf) result }
+    ensures reads { Comes (bare_in scope.now (F.told files.old) taken.now label.now kind value.now slot leaf) result }
     ensures tells { F.told files.new ≡ F.told files.old }
     ensures later { part ReadFile (F.faults files.old) ≤ part ReadFile (F.faults files.new) }
     ensures fault { IsFailed result → RoseIn ReadFile (F.faults files.old) (F.faults files.new) }
@@ -140,7 +140,7 @@ fn bared<F: Files>(
     kind: StructKind,
     value: &Value,
 ) -> Result<Item, Stop>
-    ensures reads { Comes (spec.bared (context scope.now (F.told files.old)) taken.now label.now kind value.now (spec.bare kind)) result }
+    ensures reads { Comes (bared_in scope.now (F.told files.old) taken.now label.now kind value.now) result }
     ensures sound { IfOk result (Sound taken.now (shapes.Struct kind)) }
     ensures tells { F.told files.new ≡ F.told files.old }
     ensures later { part ReadFile (F.faults files.old) ≤ part ReadFile (F.faults files.new) }
@@ -171,7 +171,7 @@ pub fn value_item<'a, F: Files>(
     requires file { SmallFile scope.now.file.now }
     requires small { Small value.now }
     requires levels { deep shape < levels }
-    ensures reads { Comes (spec.value_item levels (context scope.now (F.told files.old)) active.old taken.now label.now shape value.now) result }
+    ensures reads { IsValue levels scope.now (F.told files.old) active.old taken.now label.now shape value.now result }
     ensures sound { IfOk result (Sound taken.now shape) }
     ensures same { OnOk result (active.new ≡ active.old) }
     ensures tells { F.told files.new ≡ F.told files.old }
@@ -212,7 +212,7 @@ fn shaped<'a, F: Files>(
     requires file { SmallFile scope.now.file.now }
     requires small { Small value.now }
     requires levels { deep shape ≤ levels }
-    ensures reads { Comes (spec.shaped (spec.value_item levels (context scope.now (F.told files.old)) active.old) (context scope.now (F.told files.old)) taken.now label.now shape value.now) result }
+    ensures reads { IsShaped levels scope.now (F.told files.old) active.old taken.now label.now shape value.now result }
     ensures sound { IfOk result (Sound taken.now shape) }
     ensures same { OnOk result (active.new ≡ active.old) }
     ensures tells { F.told files.new ≡ F.told files.old }
@@ -247,7 +247,7 @@ fn item<'a, F: Files>(
     requires file { SmallFile scope.now.file.now }
     requires small { Small value.now }
     requires levels { list_deep kind ≤ levels }
-    ensures reads { Comes (spec.item_step (spec.value_item levels (context scope.now (F.told files.old)) active.old) label.now kind list value.now) result }
+    ensures reads { IsItem levels scope.now (F.told files.old) active.old label.now kind list value.now result }
     ensures sound { (n : ℕ) → SoundItems kind (suc n) list → IfOk result (SoundItems kind n) }
     ensures same { OnOk result (active.new ≡ active.old) }
     ensures tells { F.told files.new ≡ F.told files.old }
@@ -286,7 +286,7 @@ fn listed<'a, F: Files>(
     requires file { SmallFile scope.now.file.now }
     requires small { Small value.now }
     requires levels { list_deep kind ≤ levels }
-    ensures reads { Comes (spec.listed (spec.value_item levels (context scope.now (F.told files.old)) active.old) label.now kind (spec.place_of value.now) (spec.as_list value.now)) result }
+    ensures reads { IsList levels scope.now (F.told files.old) active.old label.now kind value.now result }
     ensures sound { (taken : TakenNames) → IfOk result (Sound taken (shapes.List kind)) }
     ensures same { OnOk result (active.new ≡ active.old) }
     ensures tells { F.told files.new ≡ F.told files.old }
@@ -331,7 +331,7 @@ fn field<'a, F: Files>(
     requires file { SmallFile scope.now.file.now }
     requires small { Small field.now.value }
     requires levels { struct_deep kind ≤ levels }
-    ensures reads { Comes (spec.field_step (spec.value_item levels (context scope.now (F.told files.old)) active.old) taken.now kind entries field.now) result }
+    ensures reads { IsField levels scope.now (F.told files.old) active.old taken.now kind entries field.now result }
     ensures sound { SoundFields taken.now kind entries → IfOk result (SoundFields taken.now kind) }
     ensures same { OnOk result (active.new ≡ active.old) }
     ensures tells { F.told files.new ≡ F.told files.old }
@@ -371,7 +371,7 @@ fn structured<'a, F: Files>(
     requires file { SmallFile scope.now.file.now }
     requires small { Small value.now }
     requires levels { struct_deep kind ≤ levels }
-    ensures reads { Comes (spec.structured (spec.value_item levels (context scope.now (F.told files.old)) active.old) (context scope.now (F.told files.old)) taken.now label.now kind value.now (spec.as_struct value.now)) result }
+    ensures reads { IsStruct levels scope.now (F.told files.old) active.old taken.now label.now kind value.now result }
     ensures sound { IfOk result (Sound taken.now (shapes.Struct kind)) }
     ensures same { OnOk result (active.new ≡ active.old) }
     ensures tells { F.told files.new ≡ F.told files.old }

@@ -68,3 +68,11 @@ Agrees a b from = (name : List ℕ) → Reaches a from name → StandsAlike a b 
 abbrev pub workers_in : List Service → Option WorkerDef → List (List ℕ)
 workers_in services None = []
 workers_in services (Some def) = workers_of services def
+
+-- the names of the Workers among the targets of the service of this number
+abbrev pub workers_from : List Service → ℕ → List (List ℕ)
+workers_from services number = workers_in services (worker_at (slice_get services number))
+
+-- each service that the one of this number reaches stands in the second under the same name, with an equal definition
+abbrev pub AgreesFrom : List Service → List Service → ℕ → Type 0
+AgreesFrom a b number = Agrees a b (name_at a number)

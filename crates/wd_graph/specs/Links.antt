@@ -56,6 +56,10 @@ is_unknown services r = not (has_name services r.name)
 abbrev pub first_unknown : Config → Option GraphFault
 first_unknown config = find (is_unknown config.services) (references config)
 
+-- the first name that none of these services has, where these are the sockets
+abbrev pub first_unknown_in : List Service → List Socket → Option GraphFault
+first_unknown_in services sockets = first_unknown (record { services = services; sockets = sockets })
+
 -- the answer of linking: the world where each name is known, else the first unknown name
 abbrev pub Links : Config → Result Config LinkEnd → Type 0
 Links config (Ok world) = (first_unknown (linked config) ≡ None) × (world ≡ linked config)

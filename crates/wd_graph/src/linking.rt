@@ -2,7 +2,7 @@ ghost use Rattle.std.specs.Prelude.{◌≡◌, ◌<◌, ◌^◌, not, length, fl
 ghost use Rattle.std.specs.List.{find};
 ghost use Rattle.std.specs.Option.{option_copied};
 ghost use Rattle.wd_graph.specs.Names.{names_differ, has_name, targets};
-ghost use Rattle.wd_graph.specs.Links.{Links, internet, with_internet, first_unknown, is_unknown, named_by, named_at};
+ghost use Rattle.wd_graph.specs.Links.{Links, internet, with_internet, first_unknown, first_unknown_in, is_unknown, named_by, named_at};
 
 use crate::directory::Directory;
 use crate::world::World;
@@ -104,7 +104,7 @@ fn unknown(
     directory: &Directory,
     sockets: &[Socket],
 ) -> Result<Option<GraphFault>, NoMemory>
-    ensures { IfOk result (λ fault. fault ≡ first_unknown (record { services = directory.now; sockets = sockets.now })) }
+    ensures { IfOk result (λ fault. fault ≡ first_unknown_in directory.now sockets.now) }
 {
     match unknown_to_workers(alloc, directory)? {
         Some(fault) => Ok(Some(fault)),

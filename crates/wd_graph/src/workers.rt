@@ -1,5 +1,5 @@
-ghost use Rattle.std.specs.Prelude.{◌≡◌, IfOk, OnOk, slice_get};
-ghost use Rattle.wd_graph.specs.Names.{workers_of, worker_at, worker_in};
+ghost use Rattle.std.specs.Prelude.{◌≡◌, IfOk, OnOk, Some, slice_get};
+ghost use Rattle.wd_graph.specs.Names.{workers_of, worker_in};
 ghost use Rattle.wd_graph.specs.Workers.{found_mark, found_worker, found_number, found_name};
 
 use crate::directory::Directory;
@@ -58,7 +58,7 @@ fn add_number(
     number: u32,
     found: &mut Found,
 ) -> Result<(), NoMemory>
-    ensures { OnOk result (found.new ≡ found_worker found.old name.now number (worker_at (slice_get directory.now number))) }
+    ensures { OnOk result (found.new ≡ found_number directory.now found.old name.now (Some number)) }
 {
     match directory.services().get(number as usize) {
         Some(service) => add_service(alloc, service, name, number, found),

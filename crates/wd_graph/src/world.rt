@@ -34,9 +34,9 @@ impl Model for World {
 
 impl World {
     ghost use Rattle.std.specs.Prelude.{◌≡◌, ◌<◌, ◌^◌, ◌↔◌, Some, None, length, slice_get, option_map, IsTrue, IfOk};
-    ghost use Rattle.wd_graph.specs.Graph.{Agrees, IsReach, name_at, workers_in};
+    ghost use Rattle.wd_graph.specs.Graph.{AgreesFrom, IsReach, workers_from};
     ghost use Rattle.wd_graph.specs.Links.{first_unknown, internet_name};
-    ghost use Rattle.wd_graph.specs.Names.{has_name, names_differ, number_of, worker_at};
+    ghost use Rattle.wd_graph.specs.Names.{has_name, names_differ, number_of};
 
     /// The world of these services and sockets.
     pub(crate) fn of(directory: Directory, sockets: Sockets) -> World
@@ -102,7 +102,7 @@ impl World {
     /// and then of its outbound, each at its first place alone; none of a service that is no Worker.
     pub fn workers_of(&self, alloc: Global, no: ServiceNo) -> Result<NameList, NoMemory>
         requires { no.0 < length self.now.services }
-        ensures { IfOk result (λ names. names ≡ workers_in self.now.services (worker_at (slice_get self.now.services no.0))) }
+        ensures { IfOk result (λ names. names ≡ workers_from self.now.services no.0) }
     {
         match &self.service(no).kind {
             Kind::Worker(worker) => workers(alloc, &self.directory, worker),
@@ -114,7 +114,7 @@ impl World {
     /// with an equal definition.
     pub fn agree(&self, alloc: Global, other: &World, no: ServiceNo) -> Result<bool, NoMemory>
         requires { no.0 < length self.now.services }
-        ensures { IfOk result (λ agrees. IsTrue agrees ↔ Agrees self.now.services other.now.services (name_at self.now.services no.0)) }
+        ensures { IfOk result (λ agrees. IsTrue agrees ↔ AgreesFrom self.now.services other.now.services no.0) }
     {
         let marks = marks_from(alloc, &self.directory, no.0)?;
         let services = self.directory.services();

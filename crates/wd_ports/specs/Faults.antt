@@ -72,3 +72,19 @@ pub record CountsFault {T : Type 0} (old new : ℕ) (result : Result T Failed) :
 -- the count of an object that never failed
 abbrev pub no_faults : Faults
 no_faults = record { files = record { read = 0; list = 0; write = 0 }; listen = 0; lookup = 0; connect = 0; read_accepted = 0; read_connected = 0; write_accepted = 0; write_connected = 0 }
+
+-- a read of a link of this side raises its own part alone, and answers a fault only where it rose
+abbrev pub BlamesRead : {T : Type 0} → Side → Faults → Faults → Result T Failed → Type 0
+BlamesRead side old new result = Blames (ReadLink side) old new result
+
+-- a write to a link of this side raises its own part alone, and answers a fault only where it rose
+abbrev pub BlamesWrite : {T : Type 0} → Side → Faults → Faults → Result T Failed → Type 0
+BlamesWrite side old new result = Blames (WriteLink side) old new result
+
+-- a fault is answered only where the part of writes to links of this side is greater than before
+abbrev pub RoseAtFault : {T : Type 0} → Side → Faults → Faults → Result T Failed → Type 0
+RoseAtFault side old new result = IsErrOf result Fault → RoseIn (WriteLink side) old new
+
+-- the count with one fault more in a part, at most the greatest u64
+abbrev pub with_one_more : Part → Faults → Faults
+with_one_more p f = with_part p f (min (part p f + 1) 18446744073709551615)

@@ -61,6 +61,14 @@ pub record AddsNone (usable : LinkNo → Type 0) (side : LinkNo → Side) (gone 
   pub keeps : Keeps usable' side' usable side
   pub stays : Stays gone' gone
 
+-- the same of an object's two states, by what it shows of its links: the usable ones, their sides, and those gone
+abbrev pub NoneNew : {P : Type 0} → (P → LinkNo → Type 0) → (P → LinkNo → Side) → (P → LinkNo → Type 0) → P → P → Type 0
+NoneNew usable side gone old new = AddsNone (usable old) (side old) (gone old) (usable new) (side new) (gone new)
+
+-- links other than this one that were usable in an object's first state still are in its second, on the same side
+abbrev pub KeepsOthersOf : {P : Type 0} → LinkNo → (P → LinkNo → Type 0) → (P → LinkNo → Side) → P → P → Type 0
+KeepsOthersOf n usable side old new = KeepsOthers n (usable old) (side old) (usable new) (side new)
+
 -- what is told of a link has its side
 abbrev pub IsOrigin : Told → LinkNo → Side → Type 0
 IsOrigin t n side = IfSome (state_of t n) (λ l. side_of l.origin ≡ side)

@@ -55,3 +55,11 @@ no_link n = ⊥
 -- the side of a connection of a file store; it has none, so the answer does not matter
 abbrev pub no_side : LinkNo → Side
 no_side n = Accepted
+
+-- no file, no folder, no call that fails, and none that was made
+abbrev pub no_files : MemFiles
+no_files = record { files = []; folders = []; fail = []; calls = 0; faults = record { read = 0; list = 0; write = 0 } }
+
+-- one more call was counted, and beside it the files and the faults alone may differ
+abbrev pub CallsWrite : MemFiles → MemFiles → Type 0
+CallsWrite old new = new ≡ record old { files = new.files; calls = next_call old.calls; faults = new.faults }

@@ -138,6 +138,10 @@ abbrev pub with_peer : Option ℕ → Unseen → Unseen
 with_peer (Some place) u = record u { sources = u.sources ++ from.Peer place ∷ [] }
 with_peer None u = u
 
+-- a call that makes a link to the first peer of an address and port was counted, and the mark was raised
+abbrev pub connected : Ip4 → ℕ → Unseen → Unseen
+connected ip port u = marked (with_peer (peer_place u.peers ip port) (called u))
+
 -- what a read of link n gives where the call does not fail
 abbrev pub link_got : MemPort → LinkNo → ℕ → Got
 link_got p n room = source_got p.schedule p.peers (mem_link p.links.items (n.0 - 1)).source (length (mem_link p.links.items (n.0 - 1)).told.received) room
@@ -209,3 +213,7 @@ empty_plan = record { events = []; hosts = []; peers = []; files = record { file
 -- the plan of a seat; that of a seat without one is empty
 abbrev pub plan_at : List PortPlan → Seat → PortPlan
 plan_at plans seat = unwrap_or (slice_get plans seat.0) empty_plan
+
+-- the seat has the same plan in both
+abbrev pub HasSamePlan : Seat → List PortPlan → List PortPlan → Type 0
+HasSamePlan seat old new = plan_at new seat ≡ plan_at old seat

@@ -1,5 +1,5 @@
 -- What comes on a link of a plan, and what a read of it gives.
-use Rattle.std.specs.Prelude.{◌≡◌, ℕ, ◌-◌, Bool, false, List, [], ◌∷◌, ◌++◌, length, take, min, Option, Some, None, unwrap_or, option_map, find, fold, is_some, nat_eq, nat_lt, nat_le, if◌then◌else◌}
+use Rattle.std.specs.Prelude.{◌≡◌, ◌<◌, ◌+◌, slice_index_or, ℕ, ◌-◌, Bool, false, List, [], ◌∷◌, ◌++◌, length, take, min, Option, Some, None, unwrap_or, option_map, find, fold, is_some, nat_eq, nat_lt, nat_le, if◌then◌else◌}
 use Rattle.std.specs.List.{enumerate_from}
 use Rattle.wd_base.specs.declared.ids.LinkNo.{LinkNo}
 use Rattle.wd_ports.specs.declared.plan.Peer.{Peer}
@@ -85,3 +85,15 @@ abbrev pub Copied : Got → List ℕ → List ℕ → Type 0
 Copied (Bytes k) bytes buf = take k buf ≡ take k bytes
 Copied Later bytes buf = Unit {0}
 Copied End bytes buf = Unit {0}
+
+-- the stream at a place, from 0
+abbrev pub stream_of : List Comes → ℕ → Comes
+stream_of streams k = slice_index_or streams k no_stream
+
+-- the streams after one more event of the plan, each by the number of its link, where link 1 has the first of them
+abbrev pub TakesEvent : ℕ × (ℕ × PortEvent) → List Comes → List Comes → Type 0
+TakesEvent event old new = (k : ℕ) → k < length old → stream_of new k ≡ link_event (k + 1) (stream_of old k) event
+
+-- the streams of the first so many links of a plan by its events
+abbrev pub AreStreams : List (ℕ × PortEvent) → ℕ → List Comes → Type 0
+AreStreams events count streams = (k : ℕ) → k < count → stream_of streams k ≡ link_stream (k + 1) events

@@ -189,3 +189,15 @@ pub record IsNewPort (t : Told) : Type 0 where
   pub closed : t.closed ≡ false
   pub given : t.given ≡ 0
   pub links : IfSome t.links (λ links. links ≡ [])
+
+-- these are the addresses of the host, where addresses of hosts are told
+abbrev pub AreTold : List ℕ → Told → List Ip4 → Type 0
+AreTold host t ips = IfSome t.hosts (λ hosts. hosts_at hosts host ≡ Some ips)
+
+-- what was found among the hosts, if anything, is at least one address, and those of the host
+abbrev pub AreFound : List ℕ → List (List ℕ × List Ip4) → Option (List Ip4) → Type 0
+AreFound host hosts found = IfSome found (λ ips. (0 < length ips) × (hosts_at hosts host ≡ Some ips))
+
+-- the names in a folder among these files and folders; none where no folder has that path
+abbrev pub names_among : List (List ℕ × List ℕ) → List (List ℕ) → List ℕ → Option (List Name)
+names_among files folders path = names_at (record { files = files; folders = folders }) path

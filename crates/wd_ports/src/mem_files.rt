@@ -5,8 +5,8 @@ ghost use Rattle.std.specs.List.{list_any};
 ghost use Rattle.std.specs.Str.{bytes_eq};
 ghost use Rattle.std.specs.Option.{option_copied};
 ghost use Rattle.wd_ports.specs.declared.told.Side.TheVariants.{Accepted};
-ghost use Rattle.wd_ports.specs.MemFiles.{files_told, files_faults, is_failing, next_call, read_fails, no_link, no_side, stored, IsPlace, IsSet};
-ghost use Rattle.wd_ports.specs.Told.{WritesFile, file_in, is_child, names_in, names_at, slash};
+ghost use Rattle.wd_ports.specs.MemFiles.{CallsWrite, no_files, files_told, files_faults, is_failing, next_call, read_fails, no_link, no_side, stored, IsPlace, IsSet};
+ghost use Rattle.wd_ports.specs.Told.{WritesFile, file_in, is_child, names_among, names_in, names_at, slash};
 
 use crate::port::Files;
 use crate::told::{Failed, FileFaults, FileKind, Name, Names};
@@ -32,7 +32,7 @@ pub struct MemFiles {
 impl MemFiles {
     /// No file, no folder, and no call that fails. It takes no memory.
     pub fn new(alloc: Global) -> MemFiles
-        ensures { result ≡ record { files = []; folders = []; fail = []; calls = 0; faults = record { read = 0; list = 0; write = 0 } } }
+        ensures { result ≡ no_files }
     {
         MemFiles {
             files: Seq::new(alloc),
@@ -200,7 +200,7 @@ fn names_of(
     folders: &NameList,
     path: &[u8],
 ) -> Result<Option<Names>, NoMemory>
-    ensures { IfOk result (λ found. found ≡ names_at (record { files = files.now; folders = folders.now }) path.now) }
+    ensures { IfOk result (λ found. found ≡ names_among files.now folders.now path.now) }
 {
     if !has_path(folders, path) {
         return Ok(None);
@@ -266,7 +266,7 @@ impl Files for MemFiles {
 
     fn write(&mut self, alloc: Global, path: &str, bytes: &[u8]) -> Result<(), Failed>
         ensures fails { IsErrOf result Failed.Fault ↔ IsTrue (is_failing self.old.fail self.old.calls) }
-        ensures rest { self.new ≡ record self.old { files = self.new.files; calls = next_call self.old.calls; faults = self.new.faults } }
+        ensures rest { CallsWrite self.old self.new }
         ensures err { OnErr result (self.new.files ≡ self.old.files) }
         ensures tells { WritesFile path.now bytes.now result (files_told self.old) (files_told self.new) }
         ensures blames { Blames WriteFile (files_faults self.old) (files_faults self.new) result }

@@ -2,7 +2,7 @@ ghost use Rattle.std.specs.Prelude.{◌≡◌, ◌≢◌, ℕ, ◌+◌, ◌≤�
 ghost use Rattle.wd_base.specs.declared.ids.Seat.{Seat};
 ghost use Rattle.wd_ports.specs.Faults.{CountsFault, no_faults};
 ghost use Rattle.wd_ports.specs.MemFiles.{is_failing, next_call};
-ghost use Rattle.wd_ports.specs.MemPort.{empty_plan, mem_faults, mem_told, new_unseen, plan_at, planned_files, planned_told, unseen};
+ghost use Rattle.wd_ports.specs.MemPort.{HasSamePlan, empty_plan, mem_faults, mem_told, new_unseen, plan_at, planned_files, planned_told, unseen};
 ghost use Rattle.wd_ports.specs.Schedule.{IsPlanned};
 ghost use Rattle.wd_ports.specs.Told.{IsNewPort};
 
@@ -68,7 +68,7 @@ impl Maker for MemMaker {
         ensures none { IfOk result (λ p. mem_faults p ≡ no_faults) }
         ensures others { (s : Seat) → s.0 ≢ seat.0 → plan_at self.new.plans s ≡ plan_at self.old.plans s }
         ensures blames { CountsFault self.old.faults self.new.faults result }
-        ensures memory { IsErrOf result Failed.NoMemory → plan_at self.new.plans seat ≡ plan_at self.old.plans seat }
+        ensures memory { IsErrOf result Failed.NoMemory → HasSamePlan seat self.old.plans self.new.plans }
     {
         if fails_now(&self.fail, &mut self.calls) {
             self.faults = self.faults.saturating_add(1);

@@ -3,10 +3,10 @@ ghost use Rattle.wd_ports.specs.MemFiles.{stored};
 ghost use Rattle.wd_base.specs.declared.ids.LinkNo.{LinkNo};
 ghost use Rattle.wd_ports.specs.Schedule.{IsPlanned};
 ghost use Rattle.wd_ports.specs.Streams.{Copied};
-ghost use Rattle.wd_ports.specs.MemPort.{mem_told, mem_faults, mem_usable, mem_side, mem_gone, mem_link, peer_place, source_got, source_bytes, unseen, new_unseen, called, marked, fails_next, link_got, link_gone, unread, listen_fails, host_ips, lookup_fails, answer_at, accept_place, taken, connect_fails, with_peer, changed, lost, new_mem, planned_told, planned_files, total_faults};
-ghost use Rattle.wd_ports.specs.Told.{IsNewPort, file_at, names_at, WritesFile, after_listen, after_accept, after_connect, after_read, after_write, shut_on, hosts_at, link_of, with_sent, with_received, with_end, with_shut};
-ghost use Rattle.wd_ports.specs.Faults.{no_faults, Blames, ReadFile, ListFolder, WriteFile, Listen, Lookup, Connect, part, with_part, ReadLink, WriteLink};
-ghost use Rattle.wd_ports.specs.Links.{IsCount, IsFresh, IsNext, UsableLink, Keeps, KeepsOthers, Stays, AddsNone, side_of, last_link};
+ghost use Rattle.wd_ports.specs.MemPort.{mem_told, mem_faults, mem_usable, mem_side, mem_gone, mem_link, peer_place, source_got, source_bytes, unseen, new_unseen, called, marked, fails_next, link_got, link_gone, unread, listen_fails, host_ips, lookup_fails, answer_at, accept_place, taken, connect_fails, connected, changed, lost, new_mem, planned_told, planned_files, total_faults};
+ghost use Rattle.wd_ports.specs.Told.{IsNewPort, file_at, names_at, WritesFile, after_listen, after_accept, after_connect, after_read, after_write, shut_on, AreTold, AreFound, link_of, with_sent, with_received, with_end, with_shut};
+ghost use Rattle.wd_ports.specs.Faults.{no_faults, Blames, BlamesRead, BlamesWrite, ReadFile, ListFolder, WriteFile, Listen, Lookup, Connect, part, with_one_more, ReadLink, WriteLink};
+ghost use Rattle.wd_ports.specs.Links.{IsCount, IsFresh, IsNext, UsableLink, Keeps, KeepsOthersOf, Stays, NoneNew, side_of, last_link};
 
 use crate::mem_files::{MemFiles, fails_now};
 use crate::plan::{Hosts, Peers, PortPlan};
@@ -186,7 +186,7 @@ impl Files for MemPort {
         ensures blames { Blames ReadFile (mem_faults self.old) (mem_faults self.new) result }
         ensures keeps { Keeps (mem_usable self.old) (mem_side self.old) (mem_usable self.new) (mem_side self.new) }
         ensures stays { Stays (mem_gone self.old) (mem_gone self.new) }
-        ensures memory { IsErrOf result Failed.NoMemory → AddsNone (mem_usable self.old) (mem_side self.old) (mem_gone self.old) (mem_usable self.new) (mem_side self.new) (mem_gone self.new) }
+        ensures memory { IsErrOf result Failed.NoMemory → NoneNew mem_usable mem_side mem_gone self.old self.new }
     {
         self.files.read(alloc, path)
     }
@@ -198,7 +198,7 @@ impl Files for MemPort {
         ensures blames { Blames ListFolder (mem_faults self.old) (mem_faults self.new) result }
         ensures keeps { Keeps (mem_usable self.old) (mem_side self.old) (mem_usable self.new) (mem_side self.new) }
         ensures stays { Stays (mem_gone self.old) (mem_gone self.new) }
-        ensures memory { IsErrOf result Failed.NoMemory → AddsNone (mem_usable self.old) (mem_side self.old) (mem_gone self.old) (mem_usable self.new) (mem_side self.new) (mem_gone self.new) }
+        ensures memory { IsErrOf result Failed.NoMemory → NoneNew mem_usable mem_side mem_gone self.old self.new }
     {
         self.files.list(alloc, path)
     }
@@ -209,7 +209,7 @@ impl Files for MemPort {
         ensures blames { Blames WriteFile (mem_faults self.old) (mem_faults self.new) result }
         ensures keeps { Keeps (mem_usable self.old) (mem_side self.old) (mem_usable self.new) (mem_side self.new) }
         ensures stays { Stays (mem_gone self.old) (mem_gone self.new) }
-        ensures memory { IsErrOf result Failed.NoMemory → AddsNone (mem_usable self.old) (mem_side self.old) (mem_gone self.old) (mem_usable self.new) (mem_side self.new) (mem_gone self.new) }
+        ensures memory { IsErrOf result Failed.NoMemory → NoneNew mem_usable mem_side mem_gone self.old self.new }
     {
         self.files.write(alloc, path, bytes)
     }
@@ -290,7 +290,7 @@ fn add_link(
 fn find_host(alloc: Global, hosts: &Hosts, host: &[u8]) -> Result<Option<Ips>, NoMemory>
     ensures exact { IfOk result (λ found. found ≡ host_ips hosts.now host.now) }
     ensures memory { OnErr result (IsSome (host_ips hosts.now host.now)) }
-    ensures some { IfOk result (λ found. IfSome found (λ ips. (0 < length ips) × (hosts_at hosts.now host.now ≡ Some ips))) }
+    ensures some { IfOk result (λ found. AreFound host.now hosts.now found) }
 {
     for item in hosts.as_slice() {
         if item.0.as_slice() == host {
@@ -316,7 +316,7 @@ fn find_peer(peers: &Peers, ip: Ip4, port: u16) -> Option<usize>
 
 fn count_read(faults: &mut Faults, origin: LinkOrigin)
     ensures fits { part (ReadLink (side_of origin)) faults.old ≤ 18446744073709551615 }
-    ensures more { faults.new ≡ with_part (ReadLink (side_of origin)) faults.old (min (part (ReadLink (side_of origin)) faults.old + 1) 18446744073709551615) }
+    ensures more { faults.new ≡ with_one_more (ReadLink (side_of origin)) faults.old }
 {
     match origin {
         LinkOrigin::Socket(_) => faults.read_accepted = faults.read_accepted.saturating_add(1),
@@ -326,7 +326,7 @@ fn count_read(faults: &mut Faults, origin: LinkOrigin)
 
 fn count_write(faults: &mut Faults, origin: LinkOrigin)
     ensures fits { part (WriteLink (side_of origin)) faults.old ≤ 18446744073709551615 }
-    ensures more { faults.new ≡ with_part (WriteLink (side_of origin)) faults.old (min (part (WriteLink (side_of origin)) faults.old + 1) 18446744073709551615) }
+    ensures more { faults.new ≡ with_one_more (WriteLink (side_of origin)) faults.old }
 {
     match origin {
         LinkOrigin::Socket(_) => faults.write_accepted = faults.write_accepted.saturating_add(1),
@@ -365,7 +365,7 @@ impl Port for MemPort {
         ensures blames { Blames Listen (mem_faults self.old) (mem_faults self.new) result }
         ensures keeps { Keeps (mem_usable self.old) (mem_side self.old) (mem_usable self.new) (mem_side self.new) }
         ensures stays { Stays (mem_gone self.old) (mem_gone self.new) }
-        ensures memory { IsErrOf result Failed.NoMemory → (AddsNone (mem_usable self.old) (mem_side self.old) (mem_gone self.old) (mem_usable self.new) (mem_side self.new) (mem_gone self.new)) }
+        ensures memory { IsErrOf result Failed.NoMemory → NoneNew mem_usable mem_side mem_gone self.old self.new }
     {
         if fails_now(&self.fail, &mut self.calls) {
             self.faults.listen = self.faults.listen.saturating_add(1);
@@ -390,7 +390,7 @@ impl Port for MemPort {
         ensures blames { mem_faults self.new ≡ mem_faults self.old }
         ensures keeps { Keeps (mem_usable self.old) (mem_side self.old) (mem_usable self.new) (mem_side self.new) }
         ensures stays { Stays (mem_gone self.old) (mem_gone self.new) }
-        ensures memory { OnErr result (AddsNone (mem_usable self.old) (mem_side self.old) (mem_gone self.old) (mem_usable self.new) (mem_side self.new) (mem_gone self.new)) }
+        ensures memory { OnErr result (NoneNew mem_usable mem_side mem_gone self.old self.new) }
     {
         let number = self.links.len();
         if self.closed || number >= u32::MAX as usize {
@@ -420,12 +420,12 @@ impl Port for MemPort {
         ensures fails { IsErrOf result Failed.Fault ↔ IsTrue (lookup_fails self.old host.now) }
         ensures unseen { unseen self.new ≡ called (unseen self.old) }
         ensures some { IfOk result (λ ips. 0 < length ips) }
-        ensures answer { IfOk result (λ ips. IfSome (mem_told self.old).hosts (λ hosts. hosts_at hosts host.now ≡ Some ips)) }
+        ensures answer { IfOk result (λ ips. AreTold host.now (mem_told self.old) ips) }
         ensures tells { mem_told self.new ≡ mem_told self.old }
         ensures blames { Blames Lookup (mem_faults self.old) (mem_faults self.new) result }
         ensures keeps { Keeps (mem_usable self.old) (mem_side self.old) (mem_usable self.new) (mem_side self.new) }
         ensures stays { Stays (mem_gone self.old) (mem_gone self.new) }
-        ensures memory { IsErrOf result Failed.NoMemory → (AddsNone (mem_usable self.old) (mem_side self.old) (mem_gone self.old) (mem_usable self.new) (mem_side self.new) (mem_gone self.new)) }
+        ensures memory { IsErrOf result Failed.NoMemory → NoneNew mem_usable mem_side mem_gone self.old self.new }
     {
         if fails_now(&self.fail, &mut self.calls) {
             self.faults.lookup = self.faults.lookup.saturating_add(1);
@@ -442,7 +442,7 @@ impl Port for MemPort {
 
     fn connect(&mut self, alloc: Global, ip: Ip4, port: u16) -> Result<LinkNo, Failed>
         ensures fails { IsErrOf result Failed.Fault ↔ IsTrue (connect_fails self.old ip port) }
-        ensures marks { OnOk result (unseen self.new ≡ marked (with_peer (peer_place self.old.peers ip port) (called (unseen self.old)))) }
+        ensures marks { OnOk result (unseen self.new ≡ connected ip port (unseen self.old)) }
         ensures unseen { OnErr result (unseen self.new ≡ called (unseen self.old)) }
         ensures fresh { IfOk result (λ n. IsNext n (mem_told self.old)) }
         ensures link { IfOk result (λ n. mem_usable self.new n × (mem_side self.new n ≡ Side.Connected)) }
@@ -450,7 +450,7 @@ impl Port for MemPort {
         ensures blames { Blames Connect (mem_faults self.old) (mem_faults self.new) result }
         ensures keeps { Keeps (mem_usable self.old) (mem_side self.old) (mem_usable self.new) (mem_side self.new) }
         ensures stays { Stays (mem_gone self.old) (mem_gone self.new) }
-        ensures memory { IsErrOf result Failed.NoMemory → (AddsNone (mem_usable self.old) (mem_side self.old) (mem_gone self.old) (mem_usable self.new) (mem_side self.new) (mem_gone self.new)) }
+        ensures memory { IsErrOf result Failed.NoMemory → NoneNew mem_usable mem_side mem_gone self.old self.new }
     {
         let number = self.links.len();
         if fails_now(&self.fail, &mut self.calls) || number >= u32::MAX as usize {
@@ -480,11 +480,11 @@ impl Port for MemPort {
         ensures unseen { unseen self.new ≡ called (unseen self.old) }
         ensures count { IfOk result (λ got. IsCount got (length buf.new)) }
         ensures tells { mem_told self.new ≡ after_read link result buf.new (mem_told self.old) }
-        ensures blames { Blames (ReadLink (mem_side self.old link)) (mem_faults self.old) (mem_faults self.new) result }
+        ensures blames { BlamesRead (mem_side self.old link) (mem_faults self.old) (mem_faults self.new) result }
         ensures lost { IsErrOf result Failed.Fault → mem_gone self.new link }
         ensures keeps { Keeps (mem_usable self.old) (mem_side self.old) (mem_usable self.new) (mem_side self.new) }
         ensures stays { Stays (mem_gone self.old) (mem_gone self.new) }
-        ensures memory { IsErrOf result Failed.NoMemory → AddsNone (mem_usable self.old) (mem_side self.old) (mem_gone self.old) (mem_usable self.new) (mem_side self.new) (mem_gone self.new) }
+        ensures memory { IsErrOf result Failed.NoMemory → NoneNew mem_usable mem_side mem_gone self.old self.new }
     {
         let at = link.0 as usize - 1;
         if fails_now(&self.fail, &mut self.calls) {
@@ -512,11 +512,11 @@ impl Port for MemPort {
         ensures unseen { OnErr result (unseen self.new ≡ called (unseen self.old)) }
         ensures count { IfOk result (λ k. (0 < k) × (k ≤ length bytes.now)) }
         ensures tells { mem_told self.new ≡ after_write link result bytes.now (mem_told self.old) }
-        ensures blames { Blames (WriteLink (mem_side self.old link)) (mem_faults self.old) (mem_faults self.new) result }
+        ensures blames { BlamesWrite (mem_side self.old link) (mem_faults self.old) (mem_faults self.new) result }
         ensures lost { IsErrOf result Failed.Fault → mem_gone self.new link }
         ensures keeps { Keeps (mem_usable self.old) (mem_side self.old) (mem_usable self.new) (mem_side self.new) }
         ensures stays { Stays (mem_gone self.old) (mem_gone self.new) }
-        ensures memory { IsErrOf result Failed.NoMemory → AddsNone (mem_usable self.old) (mem_side self.old) (mem_gone self.old) (mem_usable self.new) (mem_side self.new) (mem_gone self.new) }
+        ensures memory { IsErrOf result Failed.NoMemory → NoneNew mem_usable mem_side mem_gone self.old self.new }
     {
         let at = link.0 as usize - 1;
         if fails_now(&self.fail, &mut self.calls) {
@@ -557,7 +557,7 @@ impl Port for MemPort {
         ensures over { mem_usable self.new link → ⊥ }
         ensures tells { mem_told self.new ≡ shut_on link (mem_told self.old) }
         ensures blames { mem_faults self.new ≡ mem_faults self.old }
-        ensures keeps { KeepsOthers link (mem_usable self.old) (mem_side self.old) (mem_usable self.new) (mem_side self.new) }
+        ensures keeps { KeepsOthersOf link mem_usable mem_side self.old self.new }
         ensures stays { (n : LinkNo) → mem_gone self.old n ↔ mem_gone self.new n }
     {
         add_shut(&mut self.links, link.0 as usize - 1);

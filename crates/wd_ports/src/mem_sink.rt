@@ -1,7 +1,7 @@
 ghost use Rattle.std.specs.Prelude.{◌≡◌, ℕ, ◌<◌, ◌≤◌, List, length, Option, Some, IfOk, IsErrOf, IsTrue, ◌↔◌};
 ghost use Rattle.wd_ports.specs.Faults.{CountsFault};
-ghost use Rattle.wd_ports.specs.MemFiles.{is_failing, next_call};
-ghost use Rattle.wd_ports.specs.Sink.{after_sink, with_bytes};
+ghost use Rattle.wd_ports.specs.MemFiles.{is_failing};
+ghost use Rattle.wd_ports.specs.Sink.{CallsSink, after_sink, with_bytes};
 
 use crate::mem_files::fails_now;
 use crate::sink::Sink;
@@ -29,7 +29,7 @@ impl Sink for MemSink {
         requires { 0 < length bytes.now }
         ensures whole { IfOk result (λ k. k ≡ length bytes.now) }
         ensures fails { IsErrOf result Failed.Fault ↔ IsTrue (is_failing self.old.fail self.old.calls) }
-        ensures rest { self.new ≡ record self.old { bytes = self.new.bytes; calls = next_call self.old.calls; faults = self.new.faults } }
+        ensures rest { CallsSink self.old self.new }
         ensures count { IfOk result (λ k. (0 < k) × (k ≤ length bytes.now)) }
         ensures tells { Some self.new.bytes ≡ after_sink result bytes.now (Some self.old.bytes) }
         ensures blames { CountsFault self.old.faults self.new.faults result }

@@ -2,9 +2,9 @@ ghost use Rattle.std.specs.Prelude.{◌≡◌, ◌≢◌, ℕ, ◌+◌, ◌<◌,
 ghost use Rattle.wd_base.specs.declared.ids.LinkNo.{LinkNo};
 ghost use Rattle.wd_ports.specs.declared.told.Faults.{Faults};
 ghost use Rattle.wd_ports.specs.declared.told.Side.{Side};
-ghost use Rattle.wd_ports.specs.Told.{Told, Has, file_at, names_at, hosts_at, WritesFile, after_listen, after_accept, after_connect, after_read, after_write, shut_on};
-ghost use Rattle.wd_ports.specs.Faults.{Blames, ReadFile, ListFolder, WriteFile, Listen, Lookup, Connect, ReadLink, WriteLink};
-ghost use Rattle.wd_ports.specs.Links.{Keeps, KeepsOthers, Stays, AddsNone, IsFresh, IsNext, UsableLink, IsCount, IsOrigin};
+ghost use Rattle.wd_ports.specs.Told.{Told, Has, file_at, names_at, AreTold, WritesFile, after_listen, after_accept, after_connect, after_read, after_write, shut_on};
+ghost use Rattle.wd_ports.specs.Faults.{Blames, BlamesRead, BlamesWrite, ReadFile, ListFolder, WriteFile, Listen, Lookup, Connect};
+ghost use Rattle.wd_ports.specs.Links.{Keeps, KeepsOthersOf, Stays, NoneNew, IsFresh, IsNext, UsableLink, IsCount, IsOrigin};
 
 use crate::told::{Accepted, Failed, Got, Names, Side};
 use std::alloc::Global;
@@ -40,7 +40,7 @@ pub trait Files {
         ensures blames { Blames ReadFile (faults self.old) (faults self.new) result }
         ensures keeps { Keeps (usable self.old) (side self.old) (usable self.new) (side self.new) }
         ensures stays { Stays (gone self.old) (gone self.new) }
-        ensures memory { IsErrOf result Failed.NoMemory → AddsNone (usable self.old) (side self.old) (gone self.old) (usable self.new) (side self.new) (gone self.new) };
+        ensures memory { IsErrOf result Failed.NoMemory → NoneNew usable side gone self.old self.new };
 
     /// The names in the folder of a path, and None where no folder has it.
     fn list(&mut self, alloc: Global, path: &str) -> Result<Option<Names>, Failed>
@@ -49,7 +49,7 @@ pub trait Files {
         ensures blames { Blames ListFolder (faults self.old) (faults self.new) result }
         ensures keeps { Keeps (usable self.old) (side self.old) (usable self.new) (side self.new) }
         ensures stays { Stays (gone self.old) (gone self.new) }
-        ensures memory { IsErrOf result Failed.NoMemory → AddsNone (usable self.old) (side self.old) (gone self.old) (usable self.new) (side self.new) (gone self.new) };
+        ensures memory { IsErrOf result Failed.NoMemory → NoneNew usable side gone self.old self.new };
 
     /// Leaves just these bytes in the file of a path, which it makes where there is none. After a
     /// `Fault` any bytes may be there.
@@ -58,7 +58,7 @@ pub trait Files {
         ensures blames { Blames WriteFile (faults self.old) (faults self.new) result }
         ensures keeps { Keeps (usable self.old) (side self.old) (usable self.new) (side self.new) }
         ensures stays { Stays (gone self.old) (gone self.new) }
-        ensures memory { IsErrOf result Failed.NoMemory → AddsNone (usable self.old) (side self.old) (gone self.old) (usable self.new) (side self.new) (gone self.new) };
+        ensures memory { IsErrOf result Failed.NoMemory → NoneNew usable side gone self.old self.new };
 }
 
 /// The outside of a seat: sockets, links, names of hosts, and files.
@@ -73,7 +73,7 @@ pub trait Port: Files + Drop {
         ensures blames { Blames Listen (Self.faults self.old) (Self.faults self.new) result }
         ensures keeps { Keeps (Self.usable self.old) (Self.side self.old) (Self.usable self.new) (Self.side self.new) }
         ensures stays { Stays (Self.gone self.old) (Self.gone self.new) }
-        ensures memory { IsErrOf result Failed.NoMemory → AddsNone (Self.usable self.old) (Self.side self.old) (Self.gone self.old) (Self.usable self.new) (Self.side self.new) (Self.gone self.new) };
+        ensures memory { IsErrOf result Failed.NoMemory → NoneNew Self.usable Self.side Self.gone self.old self.new };
 
     /// Takes a link that waits at a socket. Links are numbered from 1, those that `connect` gives
     /// among them. It answers `Closed` where no further link will come, and then always; after
@@ -85,17 +85,17 @@ pub trait Port: Files + Drop {
         ensures blames { Self.faults self.new ≡ Self.faults self.old }
         ensures keeps { Keeps (Self.usable self.old) (Self.side self.old) (Self.usable self.new) (Self.side self.new) }
         ensures stays { Stays (Self.gone self.old) (Self.gone self.new) }
-        ensures memory { OnErr result (AddsNone (Self.usable self.old) (Self.side self.old) (Self.gone self.old) (Self.usable self.new) (Self.side self.new) (Self.gone self.new)) };
+        ensures memory { OnErr result (NoneNew Self.usable Self.side Self.gone self.old self.new) };
 
     /// The addresses of a host, at least one. A host without an address is a `Fault`.
     fn lookup(&mut self, alloc: Global, host: &str) -> Result<Ips, Failed>
         ensures some { IfOk result (λ ips. 0 < length ips) }
-        ensures answer { IfOk result (λ ips. IfSome (Self.told self.old).hosts (λ hosts. hosts_at hosts host.now ≡ Some ips)) }
+        ensures answer { IfOk result (λ ips. AreTold host.now (Self.told self.old) ips) }
         ensures tells { Self.told self.new ≡ Self.told self.old }
         ensures blames { Blames Lookup (Self.faults self.old) (Self.faults self.new) result }
         ensures keeps { Keeps (Self.usable self.old) (Self.side self.old) (Self.usable self.new) (Self.side self.new) }
         ensures stays { Stays (Self.gone self.old) (Self.gone self.new) }
-        ensures memory { IsErrOf result Failed.NoMemory → AddsNone (Self.usable self.old) (Self.side self.old) (Self.gone self.old) (Self.usable self.new) (Self.side self.new) (Self.gone self.new) };
+        ensures memory { IsErrOf result Failed.NoMemory → NoneNew Self.usable Self.side Self.gone self.old self.new };
 
     /// Makes a link to an address. After link 4,294,967,295 it fails.
     fn connect(&mut self, alloc: Global, ip: Ip4, port: u16) -> Result<LinkNo, Failed>
@@ -105,7 +105,7 @@ pub trait Port: Files + Drop {
         ensures blames { Blames Connect (Self.faults self.old) (Self.faults self.new) result }
         ensures keeps { Keeps (Self.usable self.old) (Self.side self.old) (Self.usable self.new) (Self.side self.new) }
         ensures stays { Stays (Self.gone self.old) (Self.gone self.new) }
-        ensures memory { IsErrOf result Failed.NoMemory → AddsNone (Self.usable self.old) (Self.side self.old) (Self.gone self.old) (Self.usable self.new) (Self.side self.new) (Self.gone self.new) };
+        ensures memory { IsErrOf result Failed.NoMemory → NoneNew Self.usable Self.side Self.gone self.old self.new };
 
     /// Reads what has come on a link into the front of a buffer that is not empty. After a `Fault`
     /// the link is gone. After `NoMemory` the port is as it was, though the buffer may be written.
@@ -114,11 +114,11 @@ pub trait Port: Files + Drop {
         requires room { 0 < length buf.old }
         ensures count { IfOk result (λ got. IsCount got (length buf.new)) }
         ensures tells { Self.told self.new ≡ after_read link result buf.new (Self.told self.old) }
-        ensures blames { Blames (ReadLink (Self.side self.old link)) (Self.faults self.old) (Self.faults self.new) result }
+        ensures blames { BlamesRead (Self.side self.old link) (Self.faults self.old) (Self.faults self.new) result }
         ensures lost { IsErrOf result Failed.Fault → Self.gone self.new link }
         ensures keeps { Keeps (Self.usable self.old) (Self.side self.old) (Self.usable self.new) (Self.side self.new) }
         ensures stays { Stays (Self.gone self.old) (Self.gone self.new) }
-        ensures memory { IsErrOf result Failed.NoMemory → AddsNone (Self.usable self.old) (Self.side self.old) (Self.gone self.old) (Self.usable self.new) (Self.side self.new) (Self.gone self.new) };
+        ensures memory { IsErrOf result Failed.NoMemory → NoneNew Self.usable Self.side Self.gone self.old self.new };
 
     /// Sends bytes from the front of a piece that is not empty, and says how many: at least one.
     /// Where none can be sent it answers `Fault`, and the link is gone.
@@ -127,11 +127,11 @@ pub trait Port: Files + Drop {
         requires some { 0 < length bytes.now }
         ensures count { IfOk result (λ k. (0 < k) × (k ≤ length bytes.now)) }
         ensures tells { Self.told self.new ≡ after_write link result bytes.now (Self.told self.old) }
-        ensures blames { Blames (WriteLink (Self.side self.old link)) (Self.faults self.old) (Self.faults self.new) result }
+        ensures blames { BlamesWrite (Self.side self.old link) (Self.faults self.old) (Self.faults self.new) result }
         ensures lost { IsErrOf result Failed.Fault → Self.gone self.new link }
         ensures keeps { Keeps (Self.usable self.old) (Self.side self.old) (Self.usable self.new) (Self.side self.new) }
         ensures stays { Stays (Self.gone self.old) (Self.gone self.new) }
-        ensures memory { IsErrOf result Failed.NoMemory → AddsNone (Self.usable self.old) (Self.side self.old) (Self.gone self.old) (Self.usable self.new) (Self.side self.new) (Self.gone self.new) };
+        ensures memory { IsErrOf result Failed.NoMemory → NoneNew Self.usable Self.side Self.gone self.old self.new };
 
     /// Whether the link is gone. A port that tells no links may answer that it is not.
     fn gone(&mut self, link: LinkNo) -> bool
@@ -149,7 +149,7 @@ pub trait Port: Files + Drop {
         ensures over { Self.usable self.new link → ⊥ }
         ensures tells { Self.told self.new ≡ shut_on link (Self.told self.old) }
         ensures blames { Self.faults self.new ≡ Self.faults self.old }
-        ensures keeps { KeepsOthers link (Self.usable self.old) (Self.side self.old) (Self.usable self.new) (Self.side self.new) }
+        ensures keeps { KeepsOthersOf link Self.usable Self.side self.old self.new }
         ensures stays { (n : LinkNo) → Self.gone self.old n ↔ Self.gone self.new n };
 
     /// May wait a while. It gives nothing.

@@ -1,7 +1,7 @@
 ghost use Rattle.std.specs.Prelude.{◌≡◌, ℕ, ◌+◌, ◌<◌, ◌≤◌, length, map, min, drop, slice_index_or, All, Some, IfSome, IfOk, OnOk, OnErr, IsTrue, ◌↔◌, option_map};
 ghost use Rattle.wd_ports.specs.Links.{IsCount};
 ghost use Rattle.wd_ports.specs.Times.{happened, next_mark};
-ghost use Rattle.wd_ports.specs.Streams.{Copied, reply_got, no_stream, event_link, link_event, link_stream};
+ghost use Rattle.wd_ports.specs.Streams.{AreStreams, Copied, TakesEvent, reply_got, no_stream, event_link, link_event, link_stream};
 ghost use Rattle.wd_ports.specs.Schedule.{IsPlanned, arrivals_of, is_over, next_place, socket_at, stream_at, arrival_got, arrival_gone};
 
 use crate::clock::Clock;
@@ -88,7 +88,7 @@ fn add_event(
     event: &(u64, PortEvent),
 ) -> Result<(), NoMemory>
     ensures count { OnOk result (length streams.new.items ≡ length streams.old.items) }
-    ensures each { OnOk result ((k : ℕ) → k < length streams.old.items → slice_index_or streams.new.items k no_stream ≡ link_event (k + 1) (slice_index_or streams.old.items k no_stream) (number, event.now)) }
+    ensures each { OnOk result (TakesEvent (number, event.now) streams.old.items streams.new.items) }
 {
     let Some(link) = event_link(&event.1) else {
         return Ok(());
@@ -107,7 +107,7 @@ fn streams_of(
     events: &[(u64, PortEvent)],
 ) -> Result<Vec<Stream>, NoMemory>
     ensures count { IfOk result (λ streams. length streams.items ≡ count) }
-    ensures each { IfOk result (λ streams. (k : ℕ) → k < count → slice_index_or streams.items k no_stream ≡ link_stream (k + 1) events.now) }
+    ensures each { IfOk result (λ streams. AreStreams events.now count streams.items) }
 {
     let mut streams = empty_streams(alloc, count)?;
     for number in 0..events.len() {

@@ -1,5 +1,5 @@
 ghost use Rattle.std.specs.Prelude.{◌≡◌, ℕ, ◌+◌, ◌-◌, ◌<◌, ◌≤◌, [], ◌++◌, length, take, IsErrOf};
-ghost use Rattle.wd_ports.specs.Faults.{RoseIn, OnlyPart, WriteLink};
+ghost use Rattle.wd_ports.specs.Faults.{OnlyPart, RoseAtFault, WriteLink};
 ghost use Rattle.wd_ports.specs.Links.{Keeps, Stays};
 ghost use Rattle.wd_ports.specs.Send.{Sends};
 
@@ -14,7 +14,7 @@ pub fn write_all<P: Port>(port: &mut P, link: LinkNo, bytes: &[u8]) -> Result<()
     requires { P.usable port.old link }
     ensures tells { Sends link bytes.now result (P.told port.old) (P.told port.new) }
     ensures part { OnlyPart (WriteLink (P.side port.old link)) (P.faults port.old) (P.faults port.new) }
-    ensures fault { IsErrOf result Failed.Fault → RoseIn (WriteLink (P.side port.old link)) (P.faults port.old) (P.faults port.new) }
+    ensures fault { RoseAtFault (P.side port.old link) (P.faults port.old) (P.faults port.new) result }
     ensures lost { IsErrOf result Failed.Fault → P.gone port.new link }
     ensures keeps { Keeps (P.usable port.old) (P.side port.old) (P.usable port.new) (P.side port.new) }
     ensures stays { Stays (P.gone port.old) (P.gone port.new) }

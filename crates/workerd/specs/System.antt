@@ -1,8 +1,10 @@
 -- What the objects over the system tell: no content.
-use Rattle.std.specs.Prelude.{◌≡◌, ◌⊎◌, true, false, [], None}
+use Rattle.std.specs.Prelude.{◌≡◌, ◌⊎◌, ⊤, true, false, [], None}
 use Rattle.std.specs.Ordering.{nat_cmp}
 use Rattle.std.specs.BTreeMap.{ContainsKey}
 use Rattle.wd_base.specs.declared.ids.LinkNo.{LinkNo}
+use Rattle.wd_ports.specs.declared.told.Side.TheVariants.{Accepted}
+use Rattle.wd_ports.specs.Links.{AddsNone, Keeps}
 use Rattle.wd_ports.specs.Told.{Told}
 use Rattle.workerd.specs.declared.port.SystemPort.{SystemPort}
 
@@ -21,6 +23,14 @@ port_usable p n = ContainsKey nat_cmp p.links n.0
 -- the same links may be used
 abbrev pub HasSameLinks : {R : Type 0} → SystemPort R → SystemPort R → Type 0
 HasSameLinks p q = (n : LinkNo) → (port_usable p n → port_usable q n) × (port_usable q n → port_usable p n)
+
+-- the links that could be used in the first still can in the second; each of them was accepted
+abbrev pub KeepsLinks : {R : Type 0} → SystemPort R → SystemPort R → Type 0
+KeepsLinks p q = Keeps (port_usable p) (λ _. Accepted) (port_usable q) (λ _. Accepted)
+
+-- no link can be used in the second that could not be in the first; no link is ever told to be gone or not
+abbrev pub AddsNoLink : {R : Type 0} → SystemPort R → SystemPort R → Type 0
+AddsNoLink p q = AddsNone (port_usable p) (λ _. Accepted) (λ _. ⊤) (port_usable q) (λ _. Accepted) (λ _. ⊤)
 
 -- no further link will come: it was said before, standard input has ended, or the greatest number was given
 abbrev pub MayClose : {R : Type 0} → SystemPort R → Type 0

@@ -335,9 +335,9 @@ impl<R: FileSystem + AllocGlobal + Input + Net + Clone + Drop> Port for SystemPo
     ghost use Rattle.std.specs.Prelude.{◌≡◌, ⊤, Ok, IfOk, OnErr};
     ghost use Rattle.wd_ports.specs.declared.told.Accepted.TheVariants as accepted;
     ghost use Rattle.wd_ports.specs.declared.told.Side.TheVariants as side;
-    ghost use Rattle.wd_ports.specs.Links.{IsFresh, UsableLink, Keeps, Stays, AddsNone};
+    ghost use Rattle.wd_ports.specs.Links.{IsFresh, UsableLink, Stays};
     ghost use Rattle.wd_ports.specs.Told.{after_accept};
-    ghost use Rattle.workerd.specs.System.{MayClose, port_told, port_usable};
+    ghost use Rattle.workerd.specs.System.{AddsNoLink, KeepsLinks, MayClose, port_told, port_usable};
 
     fn listen(&mut self, alloc: Global, address: &Addr) -> Result<SockNo, Failed> {
         match self.add_socket(alloc, address) {
@@ -352,9 +352,9 @@ impl<R: FileSystem + AllocGlobal + Input + Net + Clone + Drop> Port for SystemPo
         ensures link { IfOk result (λ a. UsableLink a (port_usable self.new) (λ _. side.Accepted)) }
         ensures tells { port_told self.new ≡ after_accept result (port_told self.old) }
         ensures blames { self.new.faults ≡ self.old.faults }
-        ensures keeps { Keeps (port_usable self.old) (λ _. side.Accepted) (port_usable self.new) (λ _. side.Accepted) }
+        ensures keeps { KeepsLinks self.old self.new }
         ensures stays { Stays (λ _. ⊤) (λ _. ⊤) }
-        ensures memory { OnErr result (AddsNone (port_usable self.old) (λ _. side.Accepted) (λ _. ⊤) (port_usable self.new) (λ _. side.Accepted) (λ _. ⊤)) }
+        ensures memory { OnErr result (AddsNoLink self.old self.new) }
     {
         if self.closed || self.input.seen || self.given == u32::MAX {
             self.closed = true;
