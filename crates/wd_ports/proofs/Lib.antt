@@ -1,9 +1,13 @@
 pub mod Arrivals
+pub mod CallCounts
 pub mod Children
 pub mod Lookups
 pub mod MemLinks
 pub mod OneLink
 pub mod Parts
 pub mod Printing
+pub mod Sending
+pub mod SinkCalls
+pub mod Stores
 pub mod Streams
 pub mod Times

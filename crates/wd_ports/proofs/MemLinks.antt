@@ -10,7 +10,7 @@ use Rattle.wd_ports.specs.declared.mem_port.Source.{Source}
 use Rattle.wd_ports.specs.declared.mem_port.MemLink.{MemLink}
 use Rattle.wd_ports.specs.declared.mem_port.MemPort.{MemPort}
 use Rattle.wd_ports.specs.Told.{Told, on_link, sent_on, received_on, ended_on, shut_on, given_on, with_sent, with_received, with_end, with_shut}
-use Rattle.std.proofs.Common.{◌+◌, min}
+use Rattle.wd_ports.specs.Faults.{one_more}
 use Rattle.wd_ports.specs.Times.{next_mark}
 use Rattle.wd_ports.specs.declared.schedule.Schedule.{Schedule}
 use Rattle.wd_ports.specs.MemPort.{unseen, called, marked, mem_told, changed, lost, new_mem, blank_mem}
@@ -57,11 +57,11 @@ pub sources_lost : (links items : List MemLink) (i : ℕ) → items ≡ lost i l
 sources_lost links items i e = ap (map (λ m. m.source)) e ∙ map-set_same (λ m. m.source) links i _ blank_mem refl
 
 -- a call was counted, and no source changed
-pub unseen_called : (p : MemPort) (items : List MemLink) (calls : ℕ) → calls ≡ min (p.calls + 1) 18446744073709551615 → map (λ m. m.source) items ≡ map (λ m. m.source) p.links.items → record { schedule = p.schedule; peers = p.peers; fail = p.fail; calls = calls; sources = map (λ m. m.source) items } ≡ called (unseen p)
-unseen_called p items calls e f = ap (λ k. record { schedule = p.schedule; peers = p.peers; fail = p.fail; calls = k; sources = map (λ m. m.source) items }) e ∙ ap (λ ss. record { schedule = p.schedule; peers = p.peers; fail = p.fail; calls = min (p.calls + 1) 18446744073709551615; sources = ss }) f
+pub unseen_called : (p : MemPort) (items : List MemLink) (calls : ℕ) → calls ≡ one_more p.calls → map (λ m. m.source) items ≡ map (λ m. m.source) p.links.items → record { schedule = p.schedule; peers = p.peers; fail = p.fail; calls = calls; sources = map (λ m. m.source) items } ≡ called (unseen p)
+unseen_called p items calls e f = ap (λ k. record { schedule = p.schedule; peers = p.peers; fail = p.fail; calls = k; sources = map (λ m. m.source) items }) e ∙ ap (λ ss. record { schedule = p.schedule; peers = p.peers; fail = p.fail; calls = one_more p.calls; sources = ss }) f
 
 -- the same, and the mark was raised
-pub unseen_marked : (p : MemPort) (schedule : Schedule) (items : List MemLink) (calls : ℕ) → schedule ≡ record p.schedule { clock = next_mark p.schedule.clock } → calls ≡ min (p.calls + 1) 18446744073709551615 → map (λ m. m.source) items ≡ map (λ m. m.source) p.links.items → record { schedule = schedule; peers = p.peers; fail = p.fail; calls = calls; sources = map (λ m. m.source) items } ≡ marked (called (unseen p))
+pub unseen_marked : (p : MemPort) (schedule : Schedule) (items : List MemLink) (calls : ℕ) → schedule ≡ record p.schedule { clock = next_mark p.schedule.clock } → calls ≡ one_more p.calls → map (λ m. m.source) items ≡ map (λ m. m.source) p.links.items → record { schedule = schedule; peers = p.peers; fail = p.fail; calls = calls; sources = map (λ m. m.source) items } ≡ marked (called (unseen p))
 unseen_marked p schedule items calls t e f = ap (λ s. record { schedule = s; peers = p.peers; fail = p.fail; calls = calls; sources = map (λ m. m.source) items }) t ∙ ap marked (unseen_called p items calls e f)
 
 -- nothing changed

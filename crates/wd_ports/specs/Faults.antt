@@ -1,6 +1,7 @@
 -- The count of faults, with a part for each call.
 use Rattle.std.specs.Prelude.{◌≡◌, ℕ, ◌+◌, ◌≤◌, min, Result, IsErrOf}
 use Rattle.wd_ports.specs.declared.told.Faults.{Faults}
+use Rattle.wd_ports.specs.declared.told.FileFaults.{FileFaults}
 use Rattle.wd_ports.specs.declared.told.Failed.{Failed}
 use Rattle.wd_ports.specs.declared.told.Failed.TheVariants.{Fault, NoMemory}
 use Rattle.wd_ports.specs.declared.told.Side.{Side}
@@ -43,9 +44,17 @@ with_part (ReadLink Connected) f n = record f { read_connected = n }
 with_part (WriteLink Accepted) f n = record f { write_accepted = n }
 with_part (WriteLink Connected) f n = record f { write_connected = n }
 
+-- the greatest u64
+abbrev pub most_u64 : ℕ
+most_u64 = 18446744073709551615
+
+-- one more, at most the greatest u64
+abbrev pub one_more : ℕ → ℕ
+one_more n = min (n + 1) 18446744073709551615
+
 -- a number rose, or stands at the greatest u64
 abbrev pub Rose : ℕ → ℕ → Type 0
-Rose old new = min (old + 1) 18446744073709551615 ≤ new
+Rose old new = one_more old ≤ new
 
 -- a call's own part of the count of faults is greater than before
 abbrev pub RoseIn : Part → Faults → Faults → Type 0
@@ -69,9 +78,26 @@ pub record CountsFault {T : Type 0} (old new : ℕ) (result : Result T Failed) :
   pub fault : IsErrOf result Fault → Rose old new
   pub memory : IsErrOf result NoMemory → new ≡ old
 
+-- the count of files that never failed
+abbrev pub no_file_faults : FileFaults
+no_file_faults = record { read = 0; list = 0; write = 0 }
+
+-- the count of an object without sockets and links, by that of its files
+abbrev pub faults_of_files : FileFaults → Faults
+faults_of_files files = record {
+  files = files;
+  listen = 0;
+  lookup = 0;
+  connect = 0;
+  read_accepted = 0;
+  read_connected = 0;
+  write_accepted = 0;
+  write_connected = 0;
+}
+
 -- the count of an object that never failed
 abbrev pub no_faults : Faults
-no_faults = record { files = record { read = 0; list = 0; write = 0 }; listen = 0; lookup = 0; connect = 0; read_accepted = 0; read_connected = 0; write_accepted = 0; write_connected = 0 }
+no_faults = faults_of_files no_file_faults
 
 -- a read of a link of this side raises its own part alone, and answers a fault only where it rose
 abbrev pub BlamesRead : {T : Type 0} → Side → Faults → Faults → Result T Failed → Type 0
@@ -87,4 +113,4 @@ RoseAtFault side old new result = IsErrOf result Fault → RoseIn (WriteLink sid
 
 -- the count with one fault more in a part, at most the greatest u64
 abbrev pub with_one_more : Part → Faults → Faults
-with_one_more p f = with_part p f (min (part p f + 1) 18446744073709551615)
+with_one_more p f = with_part p f (one_more (part p f))

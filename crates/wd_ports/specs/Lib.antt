@@ -1,7 +1,10 @@
+pub mod Calls
 pub mod Faults
 pub mod Links
 pub mod MemFiles
+pub mod MemMaker
 pub mod MemPort
+pub mod MemSink
 pub mod Schedule
 pub mod Send
 pub mod Sink

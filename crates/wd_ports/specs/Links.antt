@@ -1,5 +1,5 @@
 -- Which links may be used, on which side they are, and which are gone.
-use Rattle.std.specs.Prelude.{◌≡◌, ◌≢◌, ℕ, ◌+◌, ◌<◌, ◌≤◌, false, length, IfSome}
+use Rattle.std.specs.Prelude.{◌≡◌, ◌≢◌, ℕ, ◌+◌, ◌<◌, ◌≤◌, false, List, Option, length, IfSome}
 use Rattle.wd_base.specs.declared.ids.LinkNo.{LinkNo}
 use Rattle.wd_ports.specs.declared.told.Accepted.{Accepted}
 use Rattle.wd_ports.specs.declared.told.Accepted.TheVariants as accepted
@@ -56,8 +56,23 @@ KeepsOthers m usable side usable' side' = (n : LinkNo) → n.0 ≢ m.0 → usabl
 abbrev pub Stays : (LinkNo → Type 0) → (LinkNo → Type 0) → Type 0
 Stays gone gone' = (n : LinkNo) → gone n → gone' n
 
+-- what a call on files leaves as it was, by what the object shows of its links: those that may be used, their sides,
+-- and those that are gone
+pub record LeavesLinks {P : Type 0} (usable : P → LinkNo → Type 0) (side : P → LinkNo → Side)
+    (gone : P → LinkNo → Type 0) (old new : P) : Type 0 where
+  pub keeps : Keeps (usable old) (side old) (usable new) (side new)
+  pub stays : Stays (gone old) (gone new)
+
+-- what a call on a port leaves as it was: its links, and the path of the last read of a file that had a fault
+pub record Leaves {P : Type 0} (usable : P → LinkNo → Type 0) (side : P → LinkNo → Side)
+    (gone : P → LinkNo → Type 0) (failed_read : P → Option (List ℕ)) (old new : P) : Type 0 where
+  pub keeps : Keeps (usable old) (side old) (usable new) (side new)
+  pub stays : Stays (gone old) (gone new)
+  pub path : failed_read new ≡ failed_read old
+
 -- no link became usable or gone
-pub record AddsNone (usable : LinkNo → Type 0) (side : LinkNo → Side) (gone usable' : LinkNo → Type 0) (side' : LinkNo → Side) (gone' : LinkNo → Type 0) : Type 0 where
+pub record AddsNone (usable : LinkNo → Type 0) (side : LinkNo → Side) (gone usable' : LinkNo → Type 0)
+    (side' : LinkNo → Side) (gone' : LinkNo → Type 0) : Type 0 where
   pub keeps : Keeps usable' side' usable side
   pub stays : Stays gone' gone
 

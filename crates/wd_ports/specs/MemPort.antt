@@ -1,6 +1,8 @@
 -- What a port in memory tells, and what its maker tells of it.
-use Rattle.std.specs.Prelude.{◌≡◌, ℕ, ◌+◌, ◌-◌, ◌≤◌, ◌<◌, ◌++◌, ◌∷◌, is_none, nat_le, nat_lt, option_and_then, if◌then◌else◌, Bool, true, false, ◌&&◌, ◌||◌, nat_eq, List, [], length, map, min, drop, Option, Some, None, slice_get, slice_set, slice_index_or}
-use Rattle.std.specs.Prelude.{unwrap_or, option_map}
+use Rattle.std.specs.Prelude.{◌≡◌, ℕ, ◌+◌, ◌-◌, ◌≤◌, ◌<◌, nat_eq, nat_le, nat_lt}
+use Rattle.std.specs.Prelude.{Bool, true, false, ◌&&◌, ◌||◌, if◌then◌else◌}
+use Rattle.std.specs.Prelude.{List, [], ◌++◌, ◌∷◌, length, map, drop, slice_get, slice_set, slice_index_or}
+use Rattle.std.specs.Prelude.{Option, Some, None, is_none, unwrap_or, option_map, option_and_then, Result}
 use Rattle.std.specs.List.{position_from}
 use Rattle.std.proofs.Common.{ap}
 use Rattle.std.proofs.lemmas.List.{length-map}
@@ -9,6 +11,7 @@ use Rattle.wd_base.specs.declared.ids.LinkNo.{LinkNo}
 use Rattle.wd_base.specs.declared.ids.Seat.{Seat}
 use Rattle.wd_ports.specs.declared.told.LinkState.{LinkState}
 use Rattle.wd_ports.specs.declared.told.LinkOrigin.{LinkOrigin}
+use Rattle.wd_ports.specs.declared.told.Failed.{Failed}
 use Rattle.wd_ports.specs.declared.told.Faults.{Faults}
 use Rattle.wd_ports.specs.declared.told.Side.{Side}
 use Rattle.wd_ports.specs.declared.plan.PortPlan.{PortPlan}
@@ -22,12 +25,14 @@ use Rattle.wd_ports.specs.declared.told.Got.TheVariants as got
 use Rattle.wd_ports.specs.declared.told.Accepted.{Accepted}
 use Rattle.wd_ports.specs.declared.told.Accepted.TheVariants.{Link, Later, Closed}
 use Rattle.wd_base.specs.declared.ids.Ip4.{Ip4}
-use Rattle.wd_ports.specs.Schedule.{stream_at, arrival_got, arrival_gone, next_place, socket_at, is_over}
+use Rattle.wd_ports.specs.Schedule.{IsPlanned, stream_at, arrival_got, arrival_gone, next_place, socket_at, is_over}
 use Rattle.wd_ports.specs.Streams.{reply_got}
 use Rattle.wd_ports.specs.Times.{next_mark}
 use Rattle.wd_ports.specs.declared.mem_port.MemLink.{MemLink}
 use Rattle.wd_ports.specs.declared.mem_port.MemPort.{MemPort}
-use Rattle.wd_ports.specs.MemFiles.{stored, is_failing, next_call}
+use Rattle.wd_ports.specs.MemFiles.{stored, no_files}
+use Rattle.wd_ports.specs.Calls.{is_failing, calls_after}
+use Rattle.wd_ports.specs.Faults.{no_faults, no_file_faults, one_more}
 use Rattle.wd_ports.specs.Links.{side_of, IsOrigin, last_link}
 use Rattle.wd_ports.specs.Told.{Told, Has, blank, new_link, hosts_at}
 
@@ -81,7 +86,13 @@ pub record Unseen : Type 0 where
 
 -- the part of a network in memory that it does not show
 abbrev pub unseen : MemPort → Unseen
-unseen p = record { schedule = p.schedule; peers = p.peers; fail = p.fail; calls = p.calls; sources = map (λ m. m.source) p.links.items }
+unseen p = record {
+  schedule = p.schedule;
+  peers = p.peers;
+  fail = p.fail;
+  calls = p.calls;
+  sources = map (λ m. m.source) p.links.items;
+}
 
 -- the same of a port that was just made of a plan
 abbrev pub new_unseen : PortPlan → Schedule → Unseen
@@ -89,11 +100,24 @@ new_unseen plan schedule = record { schedule = schedule; peers = plan.peers; fai
 
 -- a call was counted
 abbrev pub called : Unseen → Unseen
-called u = record u { calls = next_call u.calls }
+called u = record u { calls = one_more u.calls }
+
+-- the same of a call with this answer, which is not counted where memory was wanting
+abbrev pub called_for : {T : Type 0} → Result T Failed → Unseen → Unseen
+called_for result u = record u { calls = calls_after result u.calls }
 
 -- the mark was raised
 abbrev pub marked : Unseen → Unseen
 marked u = record u { schedule = record u.schedule { clock = next_mark u.schedule.clock } }
+
+-- the port with other files
+abbrev pub with_files : MemFiles → MemPort → MemPort
+with_files files p = record p { files = files }
+
+-- a call of `connect` and its fault were counted
+abbrev pub with_connect_fault : MemPort → MemPort
+with_connect_fault p =
+    record p { calls = one_more p.calls; faults = record p.faults { connect = one_more p.faults.connect } }
 
 -- the next call fails
 abbrev pub fails_next : MemPort → Bool
@@ -121,17 +145,22 @@ accept_place p = if is_shut p then None else next_place (length p.sockets) p.sch
 
 -- what `accept` answers, where it takes the arrival at a place, or none
 abbrev pub answer_at : MemPort → Option ℕ → Accepted
-answer_at p (Some place) = Link (unwrap_or (socket_at p.schedule place) (record { 0 = 0 })) (record { 0 = length p.links.items + 1 })
+answer_at p (Some place) =
+    Link (unwrap_or (socket_at p.schedule place) (record { 0 = 0 })) (record { 0 = length p.links.items + 1 })
 answer_at p None = if is_shut p || is_over p.schedule then Closed else Later
 
 -- the arrival at a place was taken, and its link is the last
 abbrev pub taken : Option ℕ → Unseen → Unseen
-taken (Some place) u = record u { schedule = record u.schedule { next = min (place + 1) 18446744073709551615 }; sources = u.sources ++ from.Arrival place ∷ [] }
+taken (Some place) u = record u {
+  schedule = record u.schedule { next = one_more place };
+  sources = u.sources ++ from.Arrival place ∷ [];
+}
 taken None u = u
 
 -- a call of `connect` fails
 abbrev pub connect_fails : MemPort → Ip4 → ℕ → Bool
-connect_fails p ip port = fails_next p || nat_le last_link (length p.links.items) || is_none (peer_place p.peers ip port)
+connect_fails p ip port =
+    fails_next p || nat_le last_link (length p.links.items) || is_none (peer_place p.peers ip port)
 
 -- a link to the peer at a place is the last
 abbrev pub with_peer : Option ℕ → Unseen → Unseen
@@ -142,9 +171,13 @@ with_peer None u = u
 abbrev pub connected : Ip4 → ℕ → Unseen → Unseen
 connected ip port u = marked (with_peer (peer_place u.peers ip port) (called u))
 
+-- link n
+abbrev pub link_at : MemPort → LinkNo → MemLink
+link_at p n = mem_link p.links.items (n.0 - 1)
+
 -- what a read of link n gives where the call does not fail
 abbrev pub link_got : MemPort → LinkNo → ℕ → Got
-link_got p n room = source_got p.schedule p.peers (mem_link p.links.items (n.0 - 1)).source (length (mem_link p.links.items (n.0 - 1)).told.received) room
+link_got p n room = source_got p.schedule p.peers (link_at p n).source (length (link_at p n).told.received) room
 
 -- the link is gone by the plan
 abbrev pub source_gone : Schedule → Source → Bool
@@ -153,11 +186,11 @@ source_gone s (from.Peer at) = false
 
 -- link n was found gone, or is gone by the plan
 abbrev pub link_gone : MemPort → LinkNo → Bool
-link_gone p n = (mem_link p.links.items (n.0 - 1)).gone || source_gone p.schedule (mem_link p.links.items (n.0 - 1)).source
+link_gone p n = (link_at p n).gone || source_gone p.schedule (link_at p n).source
 
 -- the bytes that come on link n behind those that were read
 abbrev pub unread : MemPort → LinkNo → List ℕ
-unread p n = drop (length (mem_link p.links.items (n.0 - 1)).told.received) (source_bytes p.schedule p.peers (mem_link p.links.items (n.0 - 1)).source)
+unread p n = drop (length (link_at p n).told.received) (source_bytes p.schedule p.peers (link_at p n).source)
 
 -- what is observed of a network in memory: its sockets, connections, files and host names
 abbrev pub mem_told : MemPort → Told
@@ -176,15 +209,19 @@ mem_faults p = record p.faults { files = p.files.faults }
 
 -- given, and not shut
 abbrev pub mem_usable : MemPort → LinkNo → Type 0
-mem_usable p n = (0 < n.0) × (n.0 ≤ length p.links.items) × ((mem_link p.links.items (n.0 - 1)).told.shuts ≡ 0)
+mem_usable p n = (0 < n.0) × (n.0 ≤ length p.links.items) × ((link_at p n).told.shuts ≡ 0)
 
 -- whether the connection of this number was accepted or opened
 abbrev pub mem_side : MemPort → LinkNo → Side
-mem_side p n = side_of (mem_link p.links.items (n.0 - 1)).told.origin
+mem_side p n = side_of (link_at p n).told.origin
 
 -- the peer of the connection of this number is gone
 abbrev pub mem_gone : MemPort → LinkNo → Type 0
-mem_gone p n = (mem_link p.links.items (n.0 - 1)).gone ≡ true
+mem_gone p n = (link_at p n).gone ≡ true
+
+-- the path of the last read of its files that had a fault
+abbrev pub mem_failed_read : MemPort → Option (List ℕ)
+mem_failed_read p = p.files.failed_read
 
 -- law: a connection that may be used is among those that are observed
 pub usable_has : (p : MemPort) (n : LinkNo) → mem_usable p n → Has (mem_told p) n
@@ -196,24 +233,36 @@ origin_is p n h = ap (λ l. side_of l.origin) (get_or-map (λ m. m.told) p.links
 
 -- the sum of the parts of a count
 abbrev pub total_faults : Faults → ℕ
-total_faults f = f.files.read + f.files.list + f.files.write + f.listen + f.lookup + f.connect + f.read_accepted + f.read_connected + f.write_accepted + f.write_connected
+total_faults f = f.files.read + f.files.list + f.files.write + f.listen + f.lookup + f.connect
+    + f.read_accepted + f.read_connected + f.write_accepted + f.write_connected
 
--- a plan's files, whose count begins at 0
+-- a plan's files, none of whose calls has failed
 abbrev pub planned_files : PortPlan → MemFiles
-planned_files plan = record plan.files { faults = record { read = 0; list = 0; write = 0 } }
+planned_files plan = record plan.files { faults = no_file_faults; failed_read = None }
 
 -- what a port tells that was just made of a plan
 abbrev pub planned_told : PortPlan → Told
-planned_told plan = record { sockets = []; closed = false; given = 0; links = Some []; files = Some (stored plan.files); hosts = Some plan.hosts }
+planned_told plan = record {
+  sockets = [];
+  closed = false;
+  given = 0;
+  links = Some [];
+  files = Some (stored plan.files);
+  hosts = Some plan.hosts;
+}
+
+-- a port that was just made of a plan
+pub record IsMade (plan : PortPlan) (p : MemPort) : Type 0 where
+  pub told : mem_told p ≡ planned_told plan
+  pub files : p.files ≡ planned_files plan
+  pub none : mem_faults p ≡ no_faults
+  pub planned : IsPlanned plan.events p.schedule
+  pub rest : unseen p ≡ new_unseen plan p.schedule
 
 -- the plan by which nothing happens
 abbrev pub empty_plan : PortPlan
-empty_plan = record { events = []; hosts = []; peers = []; files = record { files = []; folders = []; fail = []; calls = 0; faults = record { read = 0; list = 0; write = 0 } }; fail = [] }
+empty_plan = record { events = []; hosts = []; peers = []; files = no_files; fail = [] }
 
 -- the plan of a seat; that of a seat without one is empty
 abbrev pub plan_at : List PortPlan → Seat → PortPlan
 plan_at plans seat = unwrap_or (slice_get plans seat.0) empty_plan
-
--- the seat has the same plan in both
-abbrev pub HasSamePlan : Seat → List PortPlan → List PortPlan → Type 0
-HasSamePlan seat old new = plan_at new seat ≡ plan_at old seat

@@ -1,5 +1,6 @@
 -- What the schedule of a port in memory tells: which arrival is next, and what has come on a link.
-use Rattle.std.specs.Prelude.{◌≡◌, ℕ, ◌+◌, ◌<◌, Bool, List, length, map, drop, filter_map, take_while, option_map, Option, Some, None, slice_get, unwrap_or, nat_lt, nat_le}
+use Rattle.std.specs.Prelude.{◌≡◌, ℕ, ◌+◌, ◌<◌, nat_lt, nat_le, Bool, Option, Some, None, unwrap_or, option_map}
+use Rattle.std.specs.Prelude.{List, length, map, drop, filter_map, take_while, slice_get}
 use Rattle.std.specs.List.{position_from, enumerate_from}
 use Rattle.wd_base.specs.declared.ids.SockNo.{SockNo}
 use Rattle.wd_ports.specs.declared.told.Got.{Got}

@@ -1,9 +1,7 @@
 -- What a sink holds after a call, or a run of calls.
 use Rattle.std.specs.Prelude.{◌≡◌, ℕ, ◌≤◌, List, ◌++◌, length, take, Option, Result, Ok, Err, OnOk}
 use Rattle.std.specs.Option.{option_map}
-use Rattle.wd_ports.specs.declared.mem_sink.MemSink.{MemSink}
 use Rattle.wd_ports.specs.declared.told.Failed.{Failed}
-use Rattle.wd_ports.specs.MemFiles.{next_call}
 
 -- what was held, with these bytes behind it
 unfoldable pub with_bytes : List ℕ → Option (List ℕ) → Option (List ℕ)
@@ -20,7 +18,3 @@ pub record Prints (result : Result (Unit {0}) Failed) (text : List ℕ) (old new
   pub within : count ≤ length text
   pub whole : OnOk result (count ≡ length text)
   pub tells : new ≡ with_bytes (take count text) old
-
--- one more call was counted, and beside it the bytes and the faults alone may differ
-abbrev pub CallsSink : MemSink → MemSink → Type 0
-CallsSink old new = new ≡ record old { bytes = new.bytes; calls = next_call old.calls; faults = new.faults }

@@ -1,5 +1,7 @@
 -- What comes on a link of a plan, and what a read of it gives.
-use Rattle.std.specs.Prelude.{◌≡◌, ◌<◌, ◌+◌, slice_index_or, ℕ, ◌-◌, Bool, false, List, [], ◌∷◌, ◌++◌, length, take, min, Option, Some, None, unwrap_or, option_map, find, fold, is_some, nat_eq, nat_lt, nat_le, if◌then◌else◌}
+use Rattle.std.specs.Prelude.{◌≡◌, ℕ, ◌+◌, ◌-◌, ◌<◌, min, nat_eq, nat_lt, nat_le, Bool, false, if◌then◌else◌}
+use Rattle.std.specs.Prelude.{List, [], ◌∷◌, ◌++◌, length, take, find, fold, slice_index_or}
+use Rattle.std.specs.Prelude.{Option, Some, None, unwrap_or, option_map, is_some}
 use Rattle.std.specs.List.{enumerate_from}
 use Rattle.wd_base.specs.declared.ids.LinkNo.{LinkNo}
 use Rattle.wd_ports.specs.declared.plan.Peer.{Peer}
@@ -23,7 +25,10 @@ no_stream = record { bytes = []; pieces = []; end = None; gone = None }
 
 -- more bytes come by an event; none come behind the end
 abbrev pub with_bytes : ℕ → List ℕ → Comes → Comes
-with_bytes event bytes s = if is_some s.end then s else record s { bytes = s.bytes ++ bytes; pieces = s.pieces ++ record { event = event; end = length (s.bytes ++ bytes) } ∷ [] }
+with_bytes event bytes s = if is_some s.end then s else record s {
+  bytes = s.bytes ++ bytes;
+  pieces = s.pieces ++ record { event = event; end = length (s.bytes ++ bytes) } ∷ [];
+}
 
 -- the link ends by an event, or by an earlier one
 abbrev pub with_end : ℕ → Comes → Comes
@@ -69,16 +74,20 @@ next_piece read pieces = find (λ piece. nat_lt read piece.end) pieces
 
 -- where a piece's event has happened, as many of its bytes as there is room for; otherwise another answer
 abbrev pub piece_or : Got → ℕ → ℕ → ℕ → Option Piece → Got
-piece_or other happened read room (Some piece) = if nat_lt piece.event happened then Bytes (min (piece.end - read) room) else other
+piece_or other happened read room (Some piece) =
+    if nat_lt piece.event happened then Bytes (min (piece.end - read) room) else other
 piece_or other happened read room None = other
 
 -- what a read gives behind the bytes that were read: the next piece, or the end, or nothing yet
 abbrev pub next_got : ℕ → ℕ → ℕ → Comes → Got
-next_got happened read room s = piece_or (if has_happened happened s.end then End else Later) happened read room (next_piece read s.pieces)
+next_got happened read room s =
+    piece_or (if has_happened happened s.end then End else Later) happened read room (next_piece read s.pieces)
 
 -- what a read of a peer's reply gives at a mark
 abbrev pub reply_got : ℕ → ℕ → ℕ → Peer → Got
-reply_got mark read room peer = if nat_lt mark peer.mark then Later else if nat_le (length peer.reply) read then End else Bytes (min (length peer.reply - read) room)
+reply_got mark read room peer = if nat_lt mark peer.mark then Later
+    else if nat_le (length peer.reply) read then End
+    else Bytes (min (length peer.reply - read) room)
 
 -- the bytes at the buffer's front are the first of these
 abbrev pub Copied : Got → List ℕ → List ℕ → Type 0

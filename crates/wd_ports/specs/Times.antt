@@ -1,6 +1,7 @@
 -- The marks at which events happen.
-use Rattle.std.specs.Prelude.{ℕ, ◌+◌, List, min, nat_le}
+use Rattle.std.specs.Prelude.{ℕ, List, nat_le}
 use Rattle.std.specs.List.{prefix_len}
+use Rattle.wd_ports.specs.Faults.{one_more}
 
 -- the marks of events, in order, and the mark that was reached
 pub record Times : Type 0 where
@@ -13,4 +14,4 @@ happened t = prefix_len (λ due. nat_le due t.mark) t.due
 
 -- the next mark, at most the greatest u64
 abbrev pub next_mark : Times → Times
-next_mark t = record t { mark = min (t.mark + 1) 18446744073709551615 }
+next_mark t = record t { mark = one_more t.mark }

@@ -1,5 +1,7 @@
 -- What an object of the outside tells, and what each call does to it.
-use Rattle.std.specs.Prelude.{◌≡◌, ◌≢◌, unwrap_or, OnOk, IfSome, ℕ, ◌+◌, ◌-◌, ◌≤◌, ◌<◌, Bool, true, false, not, ◌&&◌, List, [], ◌∷◌, ◌++◌, length, take, drop, map, Option, Some, None, Result, Ok, Err, slice_set, slice_index_or, IsErrOf, nat_eq, if◌then◌else◌}
+use Rattle.std.specs.Prelude.{◌≡◌, ◌≢◌, ℕ, ◌+◌, ◌-◌, ◌≤◌, ◌<◌, nat_eq, Bool, true, false, not, ◌&&◌, if◌then◌else◌}
+use Rattle.std.specs.Prelude.{List, [], ◌∷◌, ◌++◌, length, take, drop, map, slice_set, slice_index_or}
+use Rattle.std.specs.Prelude.{Option, Some, None, unwrap_or, IfSome, Result, Ok, Err, OnOk, IsErrOf}
 use Rattle.std.specs.List.{filter, list_any, starts_with}
 use Rattle.std.specs.Option.{option_map}
 use Rattle.std.specs.Str.{bytes_eq}
@@ -13,7 +15,7 @@ use Rattle.wd_ports.specs.declared.told.LinkState.{LinkState}
 use Rattle.wd_ports.specs.declared.told.LinkOrigin.{LinkOrigin}
 use Rattle.wd_ports.specs.declared.told.LinkOrigin.TheVariants.{Socket, Peer}
 use Rattle.wd_ports.specs.declared.told.Failed.{Failed}
-use Rattle.wd_ports.specs.declared.told.Failed.TheVariants.{NoMemory}
+use Rattle.wd_ports.specs.declared.told.Failed.TheVariants.{Fault, NoMemory}
 use Rattle.wd_ports.specs.declared.told.Got.{Got}
 use Rattle.wd_ports.specs.declared.told.Got.TheVariants as got
 use Rattle.wd_ports.specs.declared.told.Accepted.{Accepted}
@@ -68,7 +70,8 @@ TellsAll t = IfSome t.links (λ links. length links ≡ t.given)
 
 -- link n is changed, and nothing else that is told
 abbrev pub on_link : LinkNo → (LinkState → LinkState) → Told → Told
-on_link n change t = record t { links = option_map (λ links. slice_set links (n.0 - 1) (change (link_of links n))) t.links }
+on_link n change t =
+    record t { links = option_map (λ links. slice_set links (n.0 - 1) (change (link_of links n))) t.links }
 
 -- the connection with these bytes received after the earlier ones
 abbrev pub with_received : List ℕ → LinkState → LinkState
@@ -104,7 +107,8 @@ shut_on n t = on_link n with_shut t
 
 -- a link was given
 unfoldable pub given_on : LinkOrigin → Told → Told
-given_on origin t = record t { given = t.given + 1; links = option_map (λ links. links ++ new_link origin ∷ []) t.links }
+given_on origin t =
+    record t { given = t.given + 1; links = option_map (λ links. links ++ new_link origin ∷ []) t.links }
 
 -- a socket has the next number; a fault adds nothing
 abbrev pub after_listen : Addr → Result SockNo Failed → Told → Told
@@ -147,6 +151,16 @@ file_at s path = file_in s.files path
 abbrev pub file_told : Told → List ℕ → Option (Option (List ℕ))
 file_told t path = option_map (λ s. file_at s path) t.files
 
+-- the most bytes of a file that a read gives
+abbrev pub file_limit : ℕ
+file_limit = 536870912
+
+-- the path of the last read that had a fault, after a read of this path
+abbrev pub failed_read_after : {T : Type 0} → Result T Failed → List ℕ → Option (List ℕ) → Option (List ℕ)
+failed_read_after (Ok x) path before = before
+failed_read_after (Err Fault) path before = Some path
+failed_read_after (Err NoMemory) path before = before
+
 -- the byte between a folder's path and a name
 abbrev pub slash : ℕ
 slash = 47
@@ -157,11 +171,14 @@ part_of folder path = drop (length folder + 1) path
 
 -- the path is the folder's, `/` and a part without `/`
 abbrev pub is_child : List ℕ → List ℕ → Bool
-is_child folder path = starts_with nat_eq path folder && starts_with nat_eq (drop (length folder) path) (slash ∷ []) && not (list_any (λ b. nat_eq b slash) (part_of folder path))
+is_child folder path = starts_with nat_eq path folder
+    && starts_with nat_eq (drop (length folder) path) (slash ∷ [])
+    && not (list_any (λ b. nat_eq b slash) (part_of folder path))
 
 -- the names of the paths that stand in the folder, in order
 unfoldable pub names_in : FileKind → List ℕ → List (List ℕ) → List Name
-names_in kind folder paths = map (λ path. record { text = part_of folder path; kind = kind }) (filter (is_child folder) paths)
+names_in kind folder paths =
+    map (λ path. record { text = part_of folder path; kind = kind }) (filter (is_child folder) paths)
 
 -- there is a folder at this path
 abbrev pub has_folder : Stored → List ℕ → Bool
@@ -169,7 +186,9 @@ has_folder s path = list_any (λ folder. bytes_eq folder path) s.folders
 
 -- the names in a folder, files first; none where no folder has that path
 abbrev pub names_at : Stored → List ℕ → Option (List Name)
-names_at s path = if has_folder s path then Some (names_in File path (map (λ f. f.0) s.files) ++ names_in Folder path s.folders) else None
+names_at s path = if has_folder s path
+    then Some (names_in File path (map (λ f. f.0) s.files) ++ names_in Folder path s.folders)
+    else None
 
 -- a write changes the file of its path alone; after a fault any bytes may be there
 pub record WritesFile (path bytes : List ℕ) (result : Result (Unit {0}) Failed) (old new : Told) : Type 0 where

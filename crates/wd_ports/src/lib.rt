@@ -2,6 +2,7 @@
 //! sink of printed text, and the gate before a turn. Beside each trait stands its form in memory.
 #![tactic(auto)]
 
+mod calls;
 mod clock;
 mod gate;
 mod maker;
@@ -26,9 +27,10 @@ pub use mem_maker::MemMaker;
 pub use mem_port::MemPort;
 pub use mem_sink::MemSink;
 pub use plan::{Hosts, Peer, Peers, Plans, PortEvent, PortPlan, Timed};
-pub use port::{Files, Port};
+pub use port::{FILE_LIMIT, Files, Port};
 pub use send::write_all;
 pub use sink::{Sink, print};
 pub use told::{
-    Accepted, Failed, Faults, FileFaults, FileKind, Got, LinkOrigin, LinkState, Name, Names, Side,
+    Accepted, Failed, Faults, FileFaults, FileKind, Got, LinkOrigin, LinkState, NO_FAULTS,
+    NO_FILE_FAULTS, Name, Names, Side,
 };

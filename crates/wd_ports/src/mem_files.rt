@@ -1,24 +1,23 @@
-ghost use Rattle.std.specs.Prelude.{◌≡◌, ◌≢◌, ℕ, ◌+◌, ◌<◌, ◌≤◌, min, nat_eq, List, [], ◌∷◌, ◌++◌, length, map, IfOk, OnOk, OnErr, IsErrOf, IsTrue, IfSome, ◌↔◌};
-ghost use Rattle.wd_ports.specs.Faults.{Blames, ReadFile, ListFolder, WriteFile};
-ghost use Rattle.wd_ports.specs.Links.{Keeps, Stays, AddsNone};
+ghost use Rattle.std.specs.Prelude.{◌≡◌, ◌≢◌, ℕ, ◌+◌, ◌<◌, ◌≤◌, List, [], ◌∷◌, ◌++◌, length, map};
+ghost use Rattle.std.specs.Prelude.{IfOk, IfSome, OnOk, OnErr, IsErrOf, IsTrue, ◌↔◌, false};
 ghost use Rattle.std.specs.List.{list_any};
 ghost use Rattle.std.specs.Str.{bytes_eq};
 ghost use Rattle.std.specs.Option.{option_copied};
-ghost use Rattle.wd_ports.specs.declared.told.Side.TheVariants.{Accepted};
-ghost use Rattle.wd_ports.specs.MemFiles.{CallsWrite, no_files, files_told, files_faults, is_failing, next_call, read_fails, no_link, no_side, stored, IsPlace, IsSet};
-ghost use Rattle.wd_ports.specs.Told.{WritesFile, file_in, is_child, names_among, names_in, names_at, slash};
+ghost use Rattle.wd_ports.specs.Calls.{is_failing};
+ghost use Rattle.wd_ports.specs.MemFiles.{no_files, files_told, files_faults, no_link, no_side, stored, IsPlace, IsSet};
+ghost use Rattle.wd_ports.specs.MemFiles.{read_fails, files_after_read, files_after_list, files_after_write};
+ghost use Rattle.wd_ports.specs.Told.{file_in, file_limit, is_child, names_among, names_in, names_at, slash};
 
-use crate::port::Files;
-use crate::told::{Failed, FileFaults, FileKind, Name, Names};
+use crate::calls::{count_call, is_failing};
+use crate::port::{FILE_LIMIT, Files};
+use crate::told::{Failed, FileFaults, FileKind, NO_FILE_FAULTS, Name, Names};
 use std::alloc::Global;
 use wd_base::{Bytes, NameList, NamedBytes, NoMemory, Numbers, Seq, TryClone};
 
-/// The most bytes that a read of a file gives.
-const MOST_BYTES: usize = 536870912;
-
 /// Files and folders in memory. The file of a path is the first pair with that path.
 ///
-/// Calls are numbered from 0, and a call whose number stands in `fail` fails.
+/// Calls are numbered from 0, and a call whose number stands in `fail` fails. One that wants memory
+/// has no number.
 #[derive(Debug, Drop)]
 pub struct MemFiles {
     pub files: NamedBytes,
@@ -27,6 +26,8 @@ pub struct MemFiles {
     /// How many calls there were.
     pub calls: u64,
     pub faults: FileFaults,
+    /// The path of the last read that failed.
+    pub failed_read: Option<Bytes>,
 }
 
 impl MemFiles {
@@ -39,11 +40,8 @@ impl MemFiles {
             folders: Seq::new(alloc),
             fail: Seq::new(alloc),
             calls: 0,
-            faults: FileFaults {
-                read: 0,
-                list: 0,
-                write: 0,
-            },
+            faults: NO_FILE_FAULTS,
+            failed_read: None,
         }
     }
 }
@@ -53,24 +51,16 @@ impl TryClone for MemFiles {
         let files = self.files.try_clone(alloc)?;
         let folders = self.folders.try_clone(alloc)?;
         let fail = self.fail.try_clone(alloc)?;
+        let failed_read = self.failed_read.try_clone(alloc)?;
         Ok(MemFiles {
             files,
             folders,
             fail,
             calls: self.calls,
             faults: self.faults,
+            failed_read,
         })
     }
-}
-
-/// Numbers a call, and says whether it is one of those that fail.
-pub fn fails_now(fail: &Numbers, calls: &mut u64) -> bool
-    ensures fails { result ≡ list_any (λ number. nat_eq number calls.old) fail.now }
-    ensures counts { calls.new ≡ min (calls.old + 1) 18446744073709551615 }
-{
-    let number = *calls;
-    *calls = number.saturating_add(1);
-    fail.as_slice().contains(&number)
 }
 
 /// The place of the first file of a path.
@@ -211,74 +201,121 @@ fn names_of(
     Ok(Some(names))
 }
 
-impl Files for MemFiles {
-    ghost told = { files_told };
-
-    ghost faults = { files_faults };
-
-    ghost usable = { λ f n. ⊥ };
-
-    ghost side = { λ f n. Accepted };
-
-    ghost gone = { λ f n. ⊥ };
-
-    fn read(&mut self, alloc: Global, path: &str) -> Result<Option<Bytes>, Failed>
-        ensures fails { IsErrOf result Failed.Fault ↔ IsTrue (read_fails self.old path.now) }
-        ensures rest { self.new ≡ record self.old { calls = next_call self.old.calls; faults = self.new.faults } }
-        ensures bytes { IfOk result (λ found. found ≡ file_in self.old.files path.now) }
-        ensures room { IfOk result (λ found. IfSome found (λ bytes. length bytes ≤ 536870912)) }
-        ensures tells { files_told self.new ≡ files_told self.old }
-        ensures blames { Blames ReadFile (files_faults self.old) (files_faults self.new) result }
-        ensures keeps { Keeps no_link no_side no_link no_side }
-        ensures stays { Stays no_link no_link }
-        ensures memory { IsErrOf result Failed.NoMemory → AddsNone no_link no_side no_link no_link no_side no_link }
+impl MemFiles {
+    /// The bytes of the file of a path, before the read is counted.
+    fn found(&self, alloc: Global, path: &[u8]) -> Result<Option<Bytes>, Failed>
+        ensures found { IfOk result (λ found. found ≡ file_in self.now.files path.now) }
+        ensures room { IfOk result (λ found. IfSome found (λ bytes. length bytes ≤ file_limit)) }
+        ensures fault { IsErrOf result Failed.Fault ↔ IsTrue (read_fails self.now path.now) }
     {
-        if fails_now(&self.fail, &mut self.calls) {
-            self.faults.read = self.faults.read.saturating_add(1);
+        if is_failing(&self.fail, self.calls) {
             return Err(Failed::Fault);
         }
-        let Some(bytes) = file_of(&self.files, path.as_bytes()) else {
+        let Some(bytes) = file_of(&self.files, path) else {
             return Ok(None);
         };
-        if bytes.len() > MOST_BYTES {
-            self.faults.read = self.faults.read.saturating_add(1);
+        if bytes.len() > FILE_LIMIT {
             return Err(Failed::Fault);
         }
         Ok(Some(bytes.try_clone(alloc)?))
     }
 
-    fn list(&mut self, alloc: Global, path: &str) -> Result<Option<Names>, Failed>
-        ensures fails { IsErrOf result Failed.Fault ↔ IsTrue (is_failing self.old.fail self.old.calls) }
-        ensures rest { self.new ≡ record self.old { calls = next_call self.old.calls; faults = self.new.faults } }
-        ensures names { IfOk result (λ found. found ≡ names_at (stored self.old) path.now) }
-        ensures tells { files_told self.new ≡ files_told self.old }
-        ensures blames { Blames ListFolder (files_faults self.old) (files_faults self.new) result }
-        ensures keeps { Keeps no_link no_side no_link no_side }
-        ensures stays { Stays no_link no_link }
-        ensures memory { IsErrOf result Failed.NoMemory → AddsNone no_link no_side no_link no_link no_side no_link }
+    /// The bytes of the file of a path. A read that fails copies its path, and may want memory for
+    /// that.
+    pub fn read_file(&mut self, alloc: Global, path: &str) -> Result<Option<Bytes>, Failed>
+        ensures found { IfOk result (λ found. found ≡ file_in self.old.files path.now) }
+        ensures room { IfOk result (λ found. IfSome found (λ bytes. length bytes ≤ file_limit)) }
+        ensures fault { IsErrOf result Failed.Fault → IsTrue (read_fails self.old path.now) }
+        ensures ok { OnOk result (read_fails self.old path.now ≡ false) }
+        ensures after { self.new ≡ files_after_read result path.now self.old }
     {
-        if fails_now(&self.fail, &mut self.calls) {
-            self.faults.list = self.faults.list.saturating_add(1);
-            return Err(Failed::Fault);
+        match self.found(alloc, path.as_bytes()) {
+            Ok(found) => {
+                self.calls = self.calls.saturating_add(1);
+                Ok(found)
+            }
+            Err(Failed::Fault) => {
+                self.failed_read = Some(Seq::copy(alloc, path.as_bytes())?);
+                self.calls = self.calls.saturating_add(1);
+                self.faults.read = self.faults.read.saturating_add(1);
+                Err(Failed::Fault)
+            }
+            Err(Failed::NoMemory) => Err(Failed::NoMemory),
         }
-        Ok(names_of(alloc, &self.files, &self.folders, path.as_bytes())?)
     }
 
-    fn write(&mut self, alloc: Global, path: &str, bytes: &[u8]) -> Result<(), Failed>
-        ensures fails { IsErrOf result Failed.Fault ↔ IsTrue (is_failing self.old.fail self.old.calls) }
-        ensures rest { CallsWrite self.old self.new }
-        ensures err { OnErr result (self.new.files ≡ self.old.files) }
-        ensures tells { WritesFile path.now bytes.now result (files_told self.old) (files_told self.new) }
-        ensures blames { Blames WriteFile (files_faults self.old) (files_faults self.new) result }
-        ensures keeps { Keeps no_link no_side no_link no_side }
-        ensures stays { Stays no_link no_link }
-        ensures memory { IsErrOf result Failed.NoMemory → AddsNone no_link no_side no_link no_link no_side no_link }
+    /// The names in the folder of a path, before the listing is counted.
+    fn listed(&self, alloc: Global, path: &[u8]) -> Result<Option<Names>, Failed>
+        ensures names { IfOk result (λ found. found ≡ names_at (stored self.now) path.now) }
+        ensures fault { IsErrOf result Failed.Fault ↔ IsTrue (is_failing self.now.fail self.now.calls) }
     {
-        if fails_now(&self.fail, &mut self.calls) {
-            self.faults.write = self.faults.write.saturating_add(1);
+        if is_failing(&self.fail, self.calls) {
             return Err(Failed::Fault);
         }
-        set_file(alloc, &mut self.files, path.as_bytes(), bytes)?;
+        Ok(names_of(alloc, &self.files, &self.folders, path)?)
+    }
+
+    /// The names in the folder of a path.
+    pub fn list_folder(&mut self, alloc: Global, path: &str) -> Result<Option<Names>, Failed>
+        ensures names { IfOk result (λ found. found ≡ names_at (stored self.old) path.now) }
+        ensures fault { IsErrOf result Failed.Fault ↔ IsTrue (is_failing self.old.fail self.old.calls) }
+        ensures after { self.new ≡ files_after_list result self.old }
+    {
+        let result = self.listed(alloc, path.as_bytes());
+        count_call(&result, &mut self.calls, &mut self.faults.list);
+        result
+    }
+
+    /// Sets the bytes of the file of a path, before the write is counted.
+    fn set(&mut self, alloc: Global, path: &[u8], bytes: &[u8]) -> Result<(), Failed>
+        ensures ok { OnOk result (IsSet path.now bytes.now self.old.files self.new.files) }
+        ensures err { OnErr result (self.new.files ≡ self.old.files) }
+        ensures fault { IsErrOf result Failed.Fault ↔ IsTrue (is_failing self.old.fail self.old.calls) }
+        ensures rest { self.new ≡ record self.old { files = self.new.files } }
+    {
+        if is_failing(&self.fail, self.calls) {
+            return Err(Failed::Fault);
+        }
+        set_file(alloc, &mut self.files, path, bytes)?;
         Ok(())
+    }
+
+    /// Leaves just these bytes in the first file of a path, or makes one. A write that fails
+    /// changes no file.
+    pub fn write_file(&mut self, alloc: Global, path: &str, bytes: &[u8]) -> Result<(), Failed>
+        ensures ok { OnOk result (IsSet path.now bytes.now self.old.files self.new.files) }
+        ensures err { OnErr result (self.new.files ≡ self.old.files) }
+        ensures fault { IsErrOf result Failed.Fault ↔ IsTrue (is_failing self.old.fail self.old.calls) }
+        ensures after { self.new ≡ files_after_write result self.new.files self.old }
+    {
+        let result = self.set(alloc, path.as_bytes(), bytes);
+        count_call(&result, &mut self.calls, &mut self.faults.write);
+        result
+    }
+}
+
+impl Files for MemFiles {
+    ghost told = { files_told };
+
+    ghost faults = { files_faults };
+
+    ghost failed_read = { λ f. f.failed_read };
+
+    ghost usable = { λ f. no_link };
+
+    ghost side = { λ f. no_side };
+
+    ghost gone = { λ f. no_link };
+
+    fn read(&mut self, alloc: Global, path: &str) -> Result<Option<Bytes>, Failed> {
+        self.read_file(alloc, path)
+    }
+
+    fn list(&mut self, alloc: Global, path: &str) -> Result<Option<Names>, Failed> {
+        self.list_folder(alloc, path)
+    }
+
+    fn write(&mut self, alloc: Global, path: &str, bytes: &[u8]) -> Result<(), Failed> {
+        self.write_file(alloc, path, bytes)
     }
 }

@@ -1,13 +1,10 @@
-ghost use Rattle.std.specs.Prelude.{◌≡◌, ◌≢◌, ℕ, ◌+◌, ◌≤◌, [], Some, IfOk, IfSome, IsErrOf, IsTrue, ◌↔◌};
-ghost use Rattle.wd_base.specs.declared.ids.Seat.{Seat};
-ghost use Rattle.wd_ports.specs.Faults.{CountsFault, no_faults};
-ghost use Rattle.wd_ports.specs.MemFiles.{is_failing, next_call};
-ghost use Rattle.wd_ports.specs.MemPort.{HasSamePlan, empty_plan, mem_faults, mem_told, new_unseen, plan_at, planned_files, planned_told, unseen};
-ghost use Rattle.wd_ports.specs.Schedule.{IsPlanned};
-ghost use Rattle.wd_ports.specs.Told.{IsNewPort};
+ghost use Rattle.std.specs.Prelude.{◌≡◌, Some, IfOk, IsErrOf, IsTrue, ◌↔◌};
+ghost use Rattle.wd_ports.specs.Calls.{is_failing};
+ghost use Rattle.wd_ports.specs.MemPort.{IsMade, empty_plan, plan_at, planned_told};
 
+use crate::calls::{count_call, is_failing};
 use crate::maker::Maker;
-use crate::mem_files::{MemFiles, fails_now};
+use crate::mem_files::MemFiles;
 use crate::mem_port::MemPort;
 use crate::plan::{Plans, PortPlan};
 use crate::port::{Files, Port};
@@ -17,6 +14,7 @@ use wd_base::{NoMemory, Numbers, Seat, Seq, TryClone};
 
 /// A maker of ports in memory. The port of a seat is made of its plan, and that of a seat without
 /// a plan of an empty one. Calls are numbered from 0, and one whose number stands in `fail` fails.
+/// One that wants memory has no number.
 #[derive(Debug, Drop)]
 pub struct MemMaker {
     pub plans: Plans,
@@ -50,6 +48,33 @@ fn plan_of(alloc: Global, plans: &Plans, seat: Seat) -> Result<PortPlan, NoMemor
     }
 }
 
+impl MemMaker {
+    ghost use Rattle.wd_ports.specs.MemMaker.{maker_after};
+
+    /// The port of a seat's plan, before the call is counted.
+    fn planned(&self, alloc: Global, seat: Seat) -> Result<MemPort, Failed>
+        ensures made { IfOk result (IsMade (plan_at self.now.plans seat)) }
+        ensures fault { IsErrOf result Failed.Fault ↔ IsTrue (is_failing self.now.fail self.now.calls) }
+    {
+        if is_failing(&self.fail, self.calls) {
+            return Err(Failed::Fault);
+        }
+        let plan = plan_of(alloc, &self.plans, seat)?;
+        Ok(MemPort::new(alloc, plan)?)
+    }
+
+    /// Makes the port of a seat's plan.
+    pub fn make(&mut self, alloc: Global, seat: Seat) -> Result<MemPort, Failed>
+        ensures made { IfOk result (IsMade (plan_at self.old.plans seat)) }
+        ensures fault { IsErrOf result Failed.Fault ↔ IsTrue (is_failing self.old.fail self.old.calls) }
+        ensures after { self.new ≡ maker_after result self.old }
+    {
+        let result = self.planned(alloc, seat);
+        count_call(&result, &mut self.calls, &mut self.faults);
+        result
+    }
+}
+
 impl Maker for MemMaker {
     type Port = MemPort;
 
@@ -57,24 +82,7 @@ impl Maker for MemMaker {
 
     ghost failures = { λ m. m.faults };
 
-    fn port(&mut self, alloc: Global, seat: Seat) -> Result<MemPort, Failed>
-        ensures fails { IsErrOf result Failed.Fault ↔ IsTrue (is_failing self.old.fail self.old.calls) }
-        ensures rest { self.new ≡ record self.old { calls = next_call self.old.calls; faults = self.new.faults } }
-        ensures events { IfOk result (λ p. IsPlanned (plan_at self.old.plans seat).events p.schedule) }
-        ensures unseen { IfOk result (λ p. unseen p ≡ new_unseen (plan_at self.old.plans seat) p.schedule) }
-        ensures files { IfOk result (λ p. p.files ≡ planned_files (plan_at self.old.plans seat)) }
-        ensures planned { IfOk result (λ p. mem_told p ≡ planned_told (plan_at self.old.plans seat)) }
-        ensures fresh { IfOk result (λ p. IsNewPort (mem_told p)) }
-        ensures none { IfOk result (λ p. mem_faults p ≡ no_faults) }
-        ensures others { (s : Seat) → s.0 ≢ seat.0 → plan_at self.new.plans s ≡ plan_at self.old.plans s }
-        ensures blames { CountsFault self.old.faults self.new.faults result }
-        ensures memory { IsErrOf result Failed.NoMemory → HasSamePlan seat self.old.plans self.new.plans }
-    {
-        if fails_now(&self.fail, &mut self.calls) {
-            self.faults = self.faults.saturating_add(1);
-            return Err(Failed::Fault);
-        }
-        let plan = plan_of(alloc, &self.plans, seat)?;
-        Ok(MemPort::new(alloc, plan)?)
+    fn port(&mut self, alloc: Global, seat: Seat) -> Result<MemPort, Failed> {
+        self.make(alloc, seat)
     }
 }

@@ -1,18 +1,28 @@
-ghost use Rattle.std.specs.Prelude.{◌≡◌, ◌≢◌, ℕ, ◌+◌, ◌-◌, ◌<◌, ◌≤◌, [], ◌∷◌, ◌++◌, List, length, take, drop, map, min, Some, IfOk, OnOk, OnErr, IfSome, IsSome, ◌↔◌, IsTrue, IsErrOf};
-ghost use Rattle.wd_ports.specs.MemFiles.{stored};
+ghost use Rattle.std.specs.Prelude.{◌≡◌, ◌≢◌, ℕ, ◌+◌, ◌-◌, ◌<◌, ◌≤◌, min, [], ◌∷◌, ◌++◌, length, map, drop};
+ghost use Rattle.std.specs.Prelude.{IfOk, OnOk, OnErr, IsErrOf, IsSome, IfSome, IsTrue, ◌↔◌};
 ghost use Rattle.wd_base.specs.declared.ids.LinkNo.{LinkNo};
-ghost use Rattle.wd_ports.specs.Schedule.{IsPlanned};
+ghost use Rattle.wd_ports.specs.Calls.{is_failing};
+ghost use Rattle.wd_ports.specs.Faults.{Blames, BlamesRead, BlamesWrite, Listen, Lookup, Connect, ReadLink, WriteLink};
+ghost use Rattle.wd_ports.specs.Faults.{part, most_u64, with_one_more};
+ghost use Rattle.wd_ports.specs.Links.{IsCount, IsFresh, IsNext, UsableLink, Leaves, KeepsOthersOf, NoneNew, side_of};
+ghost use Rattle.wd_ports.specs.MemPort.{mem_told, mem_faults, mem_failed_read, mem_usable, mem_side, mem_gone};
+ghost use Rattle.wd_ports.specs.MemPort.{unseen, called, called_for, marked, taken, connected};
+ghost use Rattle.wd_ports.specs.MemPort.{with_files, with_connect_fault, total_faults};
+ghost use Rattle.wd_ports.specs.MemPort.{fails_next, listen_fails, lookup_fails, connect_fails, IsMade};
+ghost use Rattle.wd_ports.specs.MemPort.{answer_at, accept_place, host_ips, peer_place, link_got, link_gone, unread};
+ghost use Rattle.wd_ports.specs.MemPort.{mem_link, new_mem, changed, lost, source_got, source_bytes};
 ghost use Rattle.wd_ports.specs.Streams.{Copied};
-ghost use Rattle.wd_ports.specs.MemPort.{mem_told, mem_faults, mem_usable, mem_side, mem_gone, mem_link, peer_place, source_got, source_bytes, unseen, new_unseen, called, marked, fails_next, link_got, link_gone, unread, listen_fails, host_ips, lookup_fails, answer_at, accept_place, taken, connect_fails, connected, changed, lost, new_mem, planned_told, planned_files, total_faults};
-ghost use Rattle.wd_ports.specs.Told.{IsNewPort, file_at, names_at, WritesFile, after_listen, after_accept, after_connect, after_read, after_write, shut_on, AreTold, AreFound, link_of, with_sent, with_received, with_end, with_shut};
-ghost use Rattle.wd_ports.specs.Faults.{no_faults, Blames, BlamesRead, BlamesWrite, ReadFile, ListFolder, WriteFile, Listen, Lookup, Connect, part, with_one_more, ReadLink, WriteLink};
-ghost use Rattle.wd_ports.specs.Links.{IsCount, IsFresh, IsNext, UsableLink, Keeps, KeepsOthersOf, Stays, NoneNew, side_of, last_link};
+ghost use Rattle.wd_ports.specs.Told.{AreTold, AreFound, link_of, with_sent, with_received, with_end, with_shut};
+ghost use Rattle.wd_ports.specs.Told.{after_listen, after_accept, after_connect, after_read, after_write, shut_on};
 
-use crate::mem_files::{MemFiles, fails_now};
+use crate::calls::{count_call, is_failing};
+use crate::mem_files::MemFiles;
 use crate::plan::{Hosts, Peers, PortPlan};
 use crate::port::{Files, Port};
 use crate::schedule::Schedule;
-use crate::told::{Accepted, Failed, Faults, FileFaults, Got, LinkOrigin, LinkState, Names, Side};
+use crate::told::{
+    Accepted, Failed, Faults, Got, LinkOrigin, LinkState, NO_FAULTS, NO_FILE_FAULTS, Names, Side,
+};
 use std::alloc::Global;
 use wd_base::{Addr, Bytes, Ip4, Ips, LinkNo, NoMemory, Numbers, Seq, SockNo, TryClone};
 
@@ -34,8 +44,8 @@ pub struct MemLink {
 }
 
 /// A port in memory, made of a plan. Its calls that can fail are numbered from 0, and one whose
-/// number stands in the plan's `fail` fails. Its marks start at 0, and rise at each `connect` that
-/// gives a link and at each `write_link`.
+/// number stands in the plan's `fail` fails; one that wants memory has no number. Its marks start
+/// at 0, and rise at each `connect` that gives a link and at each `write_link`.
 #[derive(Debug, Drop)]
 pub struct MemPort {
     sockets: Seq<Addr>,
@@ -50,45 +60,15 @@ pub struct MemPort {
     faults: Faults,
 }
 
-/// The count of a file store that has not failed.
-fn no_file_faults() -> FileFaults
-    ensures { result ≡ record { read = 0; list = 0; write = 0 } }
-{
-    FileFaults {
-        read: 0,
-        list: 0,
-        write: 0,
-    }
-}
-
-/// The count of a port that has not failed.
-fn never_failed() -> Faults
-    ensures { result ≡ no_faults }
-{
-    Faults {
-        files: no_file_faults(),
-        listen: 0,
-        lookup: 0,
-        connect: 0,
-        read_accepted: 0,
-        read_connected: 0,
-        write_accepted: 0,
-        write_connected: 0,
-    }
-}
-
 impl MemPort {
     /// The port of a plan. The count of the plan's files begins at 0.
     pub fn new(alloc: Global, plan: PortPlan) -> Result<MemPort, NoMemory>
-        ensures told { IfOk result (λ port. mem_told port ≡ planned_told plan) }
-        ensures files { IfOk result (λ port. port.files ≡ planned_files plan) }
-        ensures none { IfOk result (λ port. mem_faults port ≡ no_faults) }
-        ensures planned { IfOk result (λ port. IsPlanned plan.events port.schedule) }
-        ensures rest { IfOk result (λ port. unseen port ≡ new_unseen plan port.schedule) }
+        ensures { IfOk result (IsMade plan) }
     {
         let schedule = Schedule::new(alloc, &plan.events)?;
         let mut files = plan.files;
-        files.faults = no_file_faults();
+        files.faults = NO_FILE_FAULTS;
+        files.failed_read = None;
         Ok(MemPort {
             sockets: Seq::new(alloc),
             closed: false,
@@ -99,7 +79,7 @@ impl MemPort {
             schedule,
             fail: plan.fail,
             calls: 0,
-            faults: never_failed(),
+            faults: NO_FAULTS,
         })
     }
 
@@ -149,7 +129,7 @@ impl MemPort {
     /// How often its calls have failed, its files' among them: the sum of the parts of its count,
     /// at most the greatest u64.
     pub fn fails(&self) -> u64
-        ensures { result ≡ min (total_faults (mem_faults self.now)) 18446744073709551615 }
+        ensures { result ≡ min (total_faults (mem_faults self.now)) most_u64 }
     {
         let files = self.files.faults;
         let own = self.faults;
@@ -167,10 +147,49 @@ impl MemPort {
     }
 }
 
+impl MemPort {
+    ghost use Rattle.std.specs.Prelude.{false};
+    ghost use Rattle.wd_ports.specs.MemFiles.{IsSet, read_fails, stored};
+    ghost use Rattle.wd_ports.specs.MemFiles.{files_after_read, files_after_list, files_after_write};
+    ghost use Rattle.wd_ports.specs.Told.{file_in, file_limit, names_at};
+
+    /// The bytes of the file of a path, as its files give them.
+    pub fn read_file(&mut self, alloc: Global, path: &str) -> Result<Option<Bytes>, Failed>
+        ensures found { IfOk result (λ found. found ≡ file_in self.old.files.files path.now) }
+        ensures room { IfOk result (λ found. IfSome found (λ bytes. length bytes ≤ file_limit)) }
+        ensures fault { IsErrOf result Failed.Fault → IsTrue (read_fails self.old.files path.now) }
+        ensures ok { OnOk result (read_fails self.old.files path.now ≡ false) }
+        ensures after { self.new ≡ with_files (files_after_read result path.now self.old.files) self.old }
+    {
+        self.files.read_file(alloc, path)
+    }
+
+    /// The names in the folder of a path, as its files give them.
+    pub fn list_folder(&mut self, alloc: Global, path: &str) -> Result<Option<Names>, Failed>
+        ensures names { IfOk result (λ found. found ≡ names_at (stored self.old.files) path.now) }
+        ensures fault { IsErrOf result Failed.Fault ↔ IsTrue (is_failing self.old.files.fail self.old.files.calls) }
+        ensures after { self.new ≡ with_files (files_after_list result self.old.files) self.old }
+    {
+        self.files.list_folder(alloc, path)
+    }
+
+    /// Leaves just these bytes in the file of a path of its files.
+    pub fn write_file(&mut self, alloc: Global, path: &str, bytes: &[u8]) -> Result<(), Failed>
+        ensures ok { OnOk result (IsSet path.now bytes.now self.old.files.files self.new.files.files) }
+        ensures err { OnErr result (self.new.files.files ≡ self.old.files.files) }
+        ensures fault { IsErrOf result Failed.Fault ↔ IsTrue (is_failing self.old.files.fail self.old.files.calls) }
+        ensures after { self.new ≡ with_files (files_after_write result self.new.files.files self.old.files) self.old }
+    {
+        self.files.write_file(alloc, path, bytes)
+    }
+}
+
 impl Files for MemPort {
     ghost told = { mem_told };
 
     ghost faults = { mem_faults };
+
+    ghost failed_read = { mem_failed_read };
 
     ghost usable = { mem_usable };
 
@@ -178,40 +197,16 @@ impl Files for MemPort {
 
     ghost gone = { mem_gone };
 
-    fn read(&mut self, alloc: Global, path: &str) -> Result<Option<Bytes>, Failed>
-        ensures rest { self.new ≡ record self.old { files = self.new.files } }
-        ensures bytes { IfOk result (λ found. IfSome (mem_told self.old).files (λ s. found ≡ file_at s path.now)) }
-        ensures room { IfOk result (λ found. IfSome found (λ bytes. length bytes ≤ 536870912)) }
-        ensures tells { mem_told self.new ≡ mem_told self.old }
-        ensures blames { Blames ReadFile (mem_faults self.old) (mem_faults self.new) result }
-        ensures keeps { Keeps (mem_usable self.old) (mem_side self.old) (mem_usable self.new) (mem_side self.new) }
-        ensures stays { Stays (mem_gone self.old) (mem_gone self.new) }
-        ensures memory { IsErrOf result Failed.NoMemory → NoneNew mem_usable mem_side mem_gone self.old self.new }
-    {
-        self.files.read(alloc, path)
+    fn read(&mut self, alloc: Global, path: &str) -> Result<Option<Bytes>, Failed> {
+        self.read_file(alloc, path)
     }
 
-    fn list(&mut self, alloc: Global, path: &str) -> Result<Option<Names>, Failed>
-        ensures rest { self.new ≡ record self.old { files = self.new.files } }
-        ensures names { IfOk result (λ found. IfSome (mem_told self.old).files (λ s. found ≡ names_at s path.now)) }
-        ensures tells { mem_told self.new ≡ mem_told self.old }
-        ensures blames { Blames ListFolder (mem_faults self.old) (mem_faults self.new) result }
-        ensures keeps { Keeps (mem_usable self.old) (mem_side self.old) (mem_usable self.new) (mem_side self.new) }
-        ensures stays { Stays (mem_gone self.old) (mem_gone self.new) }
-        ensures memory { IsErrOf result Failed.NoMemory → NoneNew mem_usable mem_side mem_gone self.old self.new }
-    {
-        self.files.list(alloc, path)
+    fn list(&mut self, alloc: Global, path: &str) -> Result<Option<Names>, Failed> {
+        self.list_folder(alloc, path)
     }
 
-    fn write(&mut self, alloc: Global, path: &str, bytes: &[u8]) -> Result<(), Failed>
-        ensures rest { self.new ≡ record self.old { files = self.new.files } }
-        ensures tells { WritesFile path.now bytes.now result (mem_told self.old) (mem_told self.new) }
-        ensures blames { Blames WriteFile (mem_faults self.old) (mem_faults self.new) result }
-        ensures keeps { Keeps (mem_usable self.old) (mem_side self.old) (mem_usable self.new) (mem_side self.new) }
-        ensures stays { Stays (mem_gone self.old) (mem_gone self.new) }
-        ensures memory { IsErrOf result Failed.NoMemory → NoneNew mem_usable mem_side mem_gone self.old self.new }
-    {
-        self.files.write(alloc, path, bytes)
+    fn write(&mut self, alloc: Global, path: &str, bytes: &[u8]) -> Result<(), Failed> {
+        self.write_file(alloc, path, bytes)
     }
 }
 
@@ -315,7 +310,7 @@ fn find_peer(peers: &Peers, ip: Ip4, port: u16) -> Option<usize>
 }
 
 fn count_read(faults: &mut Faults, origin: LinkOrigin)
-    ensures fits { part (ReadLink (side_of origin)) faults.old ≤ 18446744073709551615 }
+    ensures fits { part (ReadLink (side_of origin)) faults.old ≤ most_u64 }
     ensures more { faults.new ≡ with_one_more (ReadLink (side_of origin)) faults.old }
 {
     match origin {
@@ -325,7 +320,7 @@ fn count_read(faults: &mut Faults, origin: LinkOrigin)
 }
 
 fn count_write(faults: &mut Faults, origin: LinkOrigin)
-    ensures fits { part (WriteLink (side_of origin)) faults.old ≤ 18446744073709551615 }
+    ensures fits { part (WriteLink (side_of origin)) faults.old ≤ most_u64 }
     ensures more { faults.new ≡ with_one_more (WriteLink (side_of origin)) faults.old }
 {
     match origin {
@@ -356,28 +351,62 @@ fn read_source(
     }
 }
 
-impl Port for MemPort {
-    fn listen(&mut self, alloc: Global, address: &Addr) -> Result<SockNo, Failed>
+impl MemPort {
+    /// Adds a socket, before the call of `listen` is counted.
+    fn add_socket(&mut self, alloc: Global, address: &Addr) -> Result<SockNo, Failed>
         ensures fails { IsErrOf result Failed.Fault ↔ IsTrue (listen_fails self.old) }
-        ensures unseen { unseen self.new ≡ called (unseen self.old) }
-        ensures number { IfOk result (λ s. s.0 ≡ length (mem_told self.old).sockets) }
+        ensures number { IfOk result (λ s. s.0 ≡ length self.old.sockets) }
         ensures tells { mem_told self.new ≡ after_listen address.now result (mem_told self.old) }
-        ensures blames { Blames Listen (mem_faults self.old) (mem_faults self.new) result }
-        ensures keeps { Keeps (mem_usable self.old) (mem_side self.old) (mem_usable self.new) (mem_side self.new) }
-        ensures stays { Stays (mem_gone self.old) (mem_gone self.new) }
-        ensures memory { IsErrOf result Failed.NoMemory → NoneNew mem_usable mem_side mem_gone self.old self.new }
+        ensures rest { self.new ≡ record self.old { sockets = self.new.sockets } }
     {
-        if fails_now(&self.fail, &mut self.calls) {
-            self.faults.listen = self.faults.listen.saturating_add(1);
+        if is_failing(&self.fail, self.calls) {
             return Err(Failed::Fault);
         }
         let Ok(number) = u32::try_from(self.sockets.len()) else {
-            self.faults.listen = self.faults.listen.saturating_add(1);
             return Err(Failed::Fault);
         };
         let address = address.try_clone(alloc)?;
         self.sockets.push(address)?;
         Ok(SockNo(number))
+    }
+
+    /// The addresses of a host, before the call of `lookup` is counted.
+    fn find_ips(&self, alloc: Global, host: &[u8]) -> Result<Ips, Failed>
+        ensures fails { IsErrOf result Failed.Fault ↔ IsTrue (lookup_fails self.now host.now) }
+        ensures some { IfOk result (λ ips. 0 < length ips) }
+        ensures answer { IfOk result (λ ips. AreTold host.now (mem_told self.now) ips) }
+    {
+        if is_failing(&self.fail, self.calls) {
+            return Err(Failed::Fault);
+        }
+        match find_host(alloc, &self.hosts, host)? {
+            Some(ips) => Ok(ips),
+            None => Err(Failed::Fault),
+        }
+    }
+
+    /// Counts a call of `connect` and its fault.
+    fn count_connect_fault(&mut self)
+        ensures { self.new ≡ with_connect_fault self.old }
+    {
+        self.calls = self.calls.saturating_add(1);
+        self.faults.connect = self.faults.connect.saturating_add(1);
+    }
+}
+
+impl Port for MemPort {
+    fn listen(&mut self, alloc: Global, address: &Addr) -> Result<SockNo, Failed>
+        ensures fails { IsErrOf result Failed.Fault ↔ IsTrue (listen_fails self.old) }
+        ensures unseen { unseen self.new ≡ called_for result (unseen self.old) }
+        ensures number { IfOk result (λ s. s.0 ≡ length (mem_told self.old).sockets) }
+        ensures tells { mem_told self.new ≡ after_listen address.now result (mem_told self.old) }
+        ensures blames { Blames Listen (mem_faults self.old) (mem_faults self.new) result }
+        ensures leaves { Leaves mem_usable mem_side mem_gone mem_failed_read self.old self.new }
+        ensures memory { IsErrOf result Failed.NoMemory → NoneNew mem_usable mem_side mem_gone self.old self.new }
+    {
+        let result = self.add_socket(alloc, address);
+        count_call(&result, &mut self.calls, &mut self.faults.listen);
+        result
     }
 
     fn accept(&mut self, alloc: Global) -> Result<Accepted, NoMemory>
@@ -388,8 +417,7 @@ impl Port for MemPort {
         ensures link { IfOk result (λ a. UsableLink a (mem_usable self.new) (mem_side self.new)) }
         ensures tells { mem_told self.new ≡ after_accept result (mem_told self.old) }
         ensures blames { mem_faults self.new ≡ mem_faults self.old }
-        ensures keeps { Keeps (mem_usable self.old) (mem_side self.old) (mem_usable self.new) (mem_side self.new) }
-        ensures stays { Stays (mem_gone self.old) (mem_gone self.new) }
+        ensures leaves { Leaves mem_usable mem_side mem_gone mem_failed_read self.old self.new }
         ensures memory { OnErr result (NoneNew mem_usable mem_side mem_gone self.old self.new) }
     {
         let number = self.links.len();
@@ -418,57 +446,44 @@ impl Port for MemPort {
 
     fn lookup(&mut self, alloc: Global, host: &str) -> Result<Ips, Failed>
         ensures fails { IsErrOf result Failed.Fault ↔ IsTrue (lookup_fails self.old host.now) }
-        ensures unseen { unseen self.new ≡ called (unseen self.old) }
+        ensures unseen { unseen self.new ≡ called_for result (unseen self.old) }
         ensures some { IfOk result (λ ips. 0 < length ips) }
         ensures answer { IfOk result (λ ips. AreTold host.now (mem_told self.old) ips) }
         ensures tells { mem_told self.new ≡ mem_told self.old }
         ensures blames { Blames Lookup (mem_faults self.old) (mem_faults self.new) result }
-        ensures keeps { Keeps (mem_usable self.old) (mem_side self.old) (mem_usable self.new) (mem_side self.new) }
-        ensures stays { Stays (mem_gone self.old) (mem_gone self.new) }
+        ensures leaves { Leaves mem_usable mem_side mem_gone mem_failed_read self.old self.new }
         ensures memory { IsErrOf result Failed.NoMemory → NoneNew mem_usable mem_side mem_gone self.old self.new }
     {
-        if fails_now(&self.fail, &mut self.calls) {
-            self.faults.lookup = self.faults.lookup.saturating_add(1);
-            return Err(Failed::Fault);
-        }
-        match find_host(alloc, &self.hosts, host.as_bytes())? {
-            Some(ips) => Ok(ips),
-            None => {
-                self.faults.lookup = self.faults.lookup.saturating_add(1);
-                Err(Failed::Fault)
-            }
-        }
+        let result = self.find_ips(alloc, host.as_bytes());
+        count_call(&result, &mut self.calls, &mut self.faults.lookup);
+        result
     }
 
     fn connect(&mut self, alloc: Global, ip: Ip4, port: u16) -> Result<LinkNo, Failed>
         ensures fails { IsErrOf result Failed.Fault ↔ IsTrue (connect_fails self.old ip port) }
         ensures marks { OnOk result (unseen self.new ≡ connected ip port (unseen self.old)) }
-        ensures unseen { OnErr result (unseen self.new ≡ called (unseen self.old)) }
+        ensures unseen { OnErr result (unseen self.new ≡ called_for result (unseen self.old)) }
         ensures fresh { IfOk result (λ n. IsNext n (mem_told self.old)) }
         ensures link { IfOk result (λ n. mem_usable self.new n × (mem_side self.new n ≡ Side.Connected)) }
         ensures tells { mem_told self.new ≡ after_connect ip port result (mem_told self.old) }
         ensures blames { Blames Connect (mem_faults self.old) (mem_faults self.new) result }
-        ensures keeps { Keeps (mem_usable self.old) (mem_side self.old) (mem_usable self.new) (mem_side self.new) }
-        ensures stays { Stays (mem_gone self.old) (mem_gone self.new) }
+        ensures leaves { Leaves mem_usable mem_side mem_gone mem_failed_read self.old self.new }
         ensures memory { IsErrOf result Failed.NoMemory → NoneNew mem_usable mem_side mem_gone self.old self.new }
     {
         let number = self.links.len();
-        if fails_now(&self.fail, &mut self.calls) || number >= u32::MAX as usize {
-            self.faults.connect = self.faults.connect.saturating_add(1);
+        if is_failing(&self.fail, self.calls) || number >= u32::MAX as usize {
+            self.count_connect_fault();
             return Err(Failed::Fault);
         }
-        match find_peer(&self.peers, ip, port) {
-            Some(peer) => {
-                let origin = LinkOrigin::Peer(ip, port);
-                add_link(alloc, &mut self.links, origin, Source::Peer(peer))?;
-                self.schedule.mark();
-                Ok(LinkNo(number as u32 + 1))
-            }
-            None => {
-                self.faults.connect = self.faults.connect.saturating_add(1);
-                Err(Failed::Fault)
-            }
-        }
+        let Some(peer) = find_peer(&self.peers, ip, port) else {
+            self.count_connect_fault();
+            return Err(Failed::Fault);
+        };
+        let origin = LinkOrigin::Peer(ip, port);
+        add_link(alloc, &mut self.links, origin, Source::Peer(peer))?;
+        self.calls = self.calls.saturating_add(1);
+        self.schedule.mark();
+        Ok(LinkNo(number as u32 + 1))
     }
 
     fn read_link(&mut self, link: LinkNo, buf: &mut [u8]) -> Result<Got, Failed>
@@ -477,17 +492,17 @@ impl Port for MemPort {
         ensures got { IfOk result (λ got. got ≡ link_got self.old link (length buf.old)) }
         ensures copied { IfOk result (λ got. Copied got (unread self.old link) buf.new) }
         ensures fails { IsErrOf result Failed.Fault ↔ IsTrue (fails_next self.old) }
-        ensures unseen { unseen self.new ≡ called (unseen self.old) }
+        ensures unseen { unseen self.new ≡ called_for result (unseen self.old) }
         ensures count { IfOk result (λ got. IsCount got (length buf.new)) }
         ensures tells { mem_told self.new ≡ after_read link result buf.new (mem_told self.old) }
         ensures blames { BlamesRead (mem_side self.old link) (mem_faults self.old) (mem_faults self.new) result }
         ensures lost { IsErrOf result Failed.Fault → mem_gone self.new link }
-        ensures keeps { Keeps (mem_usable self.old) (mem_side self.old) (mem_usable self.new) (mem_side self.new) }
-        ensures stays { Stays (mem_gone self.old) (mem_gone self.new) }
+        ensures leaves { Leaves mem_usable mem_side mem_gone mem_failed_read self.old self.new }
         ensures memory { IsErrOf result Failed.NoMemory → NoneNew mem_usable mem_side mem_gone self.old self.new }
     {
         let at = link.0 as usize - 1;
-        if fails_now(&self.fail, &mut self.calls) {
+        if is_failing(&self.fail, self.calls) {
+            self.calls = self.calls.saturating_add(1);
             count_read(&mut self.faults, self.links[at].told.origin);
             set_gone(&mut self.links, at);
             return Err(Failed::Fault);
@@ -500,6 +515,7 @@ impl Port for MemPort {
             Got::Later => {}
             Got::End => set_ended(&mut self.links, at),
         }
+        self.calls = self.calls.saturating_add(1);
         Ok(got)
     }
 
@@ -509,22 +525,23 @@ impl Port for MemPort {
         ensures whole { IfOk result (λ k. k ≡ length bytes.now) }
         ensures fails { IsErrOf result Failed.Fault ↔ IsTrue (fails_next self.old) }
         ensures marks { OnOk result (unseen self.new ≡ marked (called (unseen self.old))) }
-        ensures unseen { OnErr result (unseen self.new ≡ called (unseen self.old)) }
+        ensures unseen { OnErr result (unseen self.new ≡ called_for result (unseen self.old)) }
         ensures count { IfOk result (λ k. (0 < k) × (k ≤ length bytes.now)) }
         ensures tells { mem_told self.new ≡ after_write link result bytes.now (mem_told self.old) }
         ensures blames { BlamesWrite (mem_side self.old link) (mem_faults self.old) (mem_faults self.new) result }
         ensures lost { IsErrOf result Failed.Fault → mem_gone self.new link }
-        ensures keeps { Keeps (mem_usable self.old) (mem_side self.old) (mem_usable self.new) (mem_side self.new) }
-        ensures stays { Stays (mem_gone self.old) (mem_gone self.new) }
+        ensures leaves { Leaves mem_usable mem_side mem_gone mem_failed_read self.old self.new }
         ensures memory { IsErrOf result Failed.NoMemory → NoneNew mem_usable mem_side mem_gone self.old self.new }
     {
         let at = link.0 as usize - 1;
-        if fails_now(&self.fail, &mut self.calls) {
+        if is_failing(&self.fail, self.calls) {
+            self.calls = self.calls.saturating_add(1);
             count_write(&mut self.faults, self.links[at].told.origin);
             set_gone(&mut self.links, at);
             return Err(Failed::Fault);
         }
         add_sent(&mut self.links, at, bytes)?;
+        self.calls = self.calls.saturating_add(1);
         self.schedule.mark();
         Ok(bytes.len())
     }
@@ -538,8 +555,7 @@ impl Port for MemPort {
         ensures answer { IsSome (mem_told self.old).links → (IsTrue result ↔ mem_gone self.new link) }
         ensures tells { mem_told self.new ≡ mem_told self.old }
         ensures blames { mem_faults self.new ≡ mem_faults self.old }
-        ensures keeps { Keeps (mem_usable self.old) (mem_side self.old) (mem_usable self.new) (mem_side self.new) }
-        ensures stays { Stays (mem_gone self.old) (mem_gone self.new) }
+        ensures leaves { Leaves mem_usable mem_side mem_gone mem_failed_read self.old self.new }
     {
         let at = link.0 as usize - 1;
         if let Source::Arrival(arrival) = self.links[at].source {
@@ -559,6 +575,7 @@ impl Port for MemPort {
         ensures blames { mem_faults self.new ≡ mem_faults self.old }
         ensures keeps { KeepsOthersOf link mem_usable mem_side self.old self.new }
         ensures stays { (n : LinkNo) → mem_gone self.old n ↔ mem_gone self.new n }
+        ensures path { mem_failed_read self.new ≡ mem_failed_read self.old }
     {
         add_shut(&mut self.links, link.0 as usize - 1);
     }
@@ -567,8 +584,7 @@ impl Port for MemPort {
         ensures same { self.new ≡ self.old }
         ensures tells { mem_told self.new ≡ mem_told self.old }
         ensures blames { mem_faults self.new ≡ mem_faults self.old }
-        ensures keeps { Keeps (mem_usable self.old) (mem_side self.old) (mem_usable self.new) (mem_side self.new) }
-        ensures stays { Stays (mem_gone self.old) (mem_gone self.new) }
+        ensures leaves { Leaves mem_usable mem_side mem_gone mem_failed_read self.old self.new }
     {}
 
     ghost use Rattle.wd_ports.specs.MemPort.{usable_has, origin_is};

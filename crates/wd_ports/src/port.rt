@@ -1,14 +1,21 @@
-ghost use Rattle.std.specs.Prelude.{◌≡◌, ◌≢◌, ℕ, ◌+◌, ◌<◌, ◌≤◌, length, Some, IfOk, OnErr, IfSome, IsSome, ◌↔◌, IsTrue, IsErrOf};
+ghost use Rattle.std.specs.Prelude.{◌≡◌, ℕ, ◌+◌, ◌<◌, ◌≤◌, List, length, Option, Some, IsSome, IfSome};
+ghost use Rattle.std.specs.Prelude.{IfOk, OnErr, IsErrOf, IsTrue, ◌↔◌};
 ghost use Rattle.wd_base.specs.declared.ids.LinkNo.{LinkNo};
 ghost use Rattle.wd_ports.specs.declared.told.Faults.{Faults};
 ghost use Rattle.wd_ports.specs.declared.told.Side.{Side};
-ghost use Rattle.wd_ports.specs.Told.{Told, Has, file_at, names_at, AreTold, WritesFile, after_listen, after_accept, after_connect, after_read, after_write, shut_on};
-ghost use Rattle.wd_ports.specs.Faults.{Blames, BlamesRead, BlamesWrite, ReadFile, ListFolder, WriteFile, Listen, Lookup, Connect};
-ghost use Rattle.wd_ports.specs.Links.{Keeps, KeepsOthersOf, Stays, NoneNew, IsFresh, IsNext, UsableLink, IsCount, IsOrigin};
+ghost use Rattle.wd_ports.specs.Told.{Told, Has, AreTold, WritesFile, file_at, file_limit, names_at, failed_read_after};
+ghost use Rattle.wd_ports.specs.Told.{after_listen, after_accept, after_connect, after_read, after_write, shut_on};
+ghost use Rattle.wd_ports.specs.Faults.{Blames, BlamesRead, BlamesWrite};
+ghost use Rattle.wd_ports.specs.Faults.{ReadFile, ListFolder, WriteFile, Listen, Lookup, Connect};
+ghost use Rattle.wd_ports.specs.Links.{LeavesLinks, Leaves, KeepsOthersOf, NoneNew};
+ghost use Rattle.wd_ports.specs.Links.{IsFresh, IsNext, UsableLink, IsCount, IsOrigin};
 
 use crate::told::{Accepted, Failed, Got, Names, Side};
 use std::alloc::Global;
 use wd_base::{Addr, Bytes, Ip4, Ips, LinkNo, NoMemory, SockNo};
+
+/// The most bytes of a file that a read gives.
+pub const FILE_LIMIT: usize = 536_870_912;
 
 /// Files by their paths, and folders.
 ///
@@ -21,6 +28,9 @@ pub trait Files {
 
     /// Its count of faults.
     ghost faults: { Self → Faults };
+
+    /// The path of the last read of a file that had a fault, where one had.
+    ghost failed_read: { Self → Option (List ℕ) };
 
     /// The link was given and not shut.
     ghost usable: { Self → LinkNo → Type 0 };
@@ -35,11 +45,11 @@ pub trait Files {
     /// longer file is a `Fault`.
     fn read(&mut self, alloc: Global, path: &str) -> Result<Option<Bytes>, Failed>
         ensures bytes { IfOk result (λ found. IfSome (told self.old).files (λ s. found ≡ file_at s path.now)) }
-        ensures room { IfOk result (λ found. IfSome found (λ bytes. length bytes ≤ 536870912)) }
+        ensures room { IfOk result (λ found. IfSome found (λ bytes. length bytes ≤ file_limit)) }
         ensures tells { told self.new ≡ told self.old }
         ensures blames { Blames ReadFile (faults self.old) (faults self.new) result }
-        ensures keeps { Keeps (usable self.old) (side self.old) (usable self.new) (side self.new) }
-        ensures stays { Stays (gone self.old) (gone self.new) }
+        ensures path { failed_read self.new ≡ failed_read_after result path.now (failed_read self.old) }
+        ensures leaves { LeavesLinks usable side gone self.old self.new }
         ensures memory { IsErrOf result Failed.NoMemory → NoneNew usable side gone self.old self.new };
 
     /// The names in the folder of a path, and None where no folder has it.
@@ -47,8 +57,8 @@ pub trait Files {
         ensures names { IfOk result (λ found. IfSome (told self.old).files (λ s. found ≡ names_at s path.now)) }
         ensures tells { told self.new ≡ told self.old }
         ensures blames { Blames ListFolder (faults self.old) (faults self.new) result }
-        ensures keeps { Keeps (usable self.old) (side self.old) (usable self.new) (side self.new) }
-        ensures stays { Stays (gone self.old) (gone self.new) }
+        ensures path { failed_read self.new ≡ failed_read self.old }
+        ensures leaves { LeavesLinks usable side gone self.old self.new }
         ensures memory { IsErrOf result Failed.NoMemory → NoneNew usable side gone self.old self.new };
 
     /// Leaves just these bytes in the file of a path, which it makes where there is none. After a
@@ -56,8 +66,8 @@ pub trait Files {
     fn write(&mut self, alloc: Global, path: &str, bytes: &[u8]) -> Result<(), Failed>
         ensures tells { WritesFile path.now bytes.now result (told self.old) (told self.new) }
         ensures blames { Blames WriteFile (faults self.old) (faults self.new) result }
-        ensures keeps { Keeps (usable self.old) (side self.old) (usable self.new) (side self.new) }
-        ensures stays { Stays (gone self.old) (gone self.new) }
+        ensures path { failed_read self.new ≡ failed_read self.old }
+        ensures leaves { LeavesLinks usable side gone self.old self.new }
         ensures memory { IsErrOf result Failed.NoMemory → NoneNew usable side gone self.old self.new };
 }
 
@@ -71,8 +81,7 @@ pub trait Port: Files + Drop {
         ensures number { IfOk result (λ s. s.0 ≡ length (Self.told self.old).sockets) }
         ensures tells { Self.told self.new ≡ after_listen address.now result (Self.told self.old) }
         ensures blames { Blames Listen (Self.faults self.old) (Self.faults self.new) result }
-        ensures keeps { Keeps (Self.usable self.old) (Self.side self.old) (Self.usable self.new) (Self.side self.new) }
-        ensures stays { Stays (Self.gone self.old) (Self.gone self.new) }
+        ensures leaves { Leaves Self.usable Self.side Self.gone Self.failed_read self.old self.new }
         ensures memory { IsErrOf result Failed.NoMemory → NoneNew Self.usable Self.side Self.gone self.old self.new };
 
     /// Takes a link that waits at a socket. Links are numbered from 1, those that `connect` gives
@@ -83,8 +92,7 @@ pub trait Port: Files + Drop {
         ensures link { IfOk result (λ a. UsableLink a (Self.usable self.new) (Self.side self.new)) }
         ensures tells { Self.told self.new ≡ after_accept result (Self.told self.old) }
         ensures blames { Self.faults self.new ≡ Self.faults self.old }
-        ensures keeps { Keeps (Self.usable self.old) (Self.side self.old) (Self.usable self.new) (Self.side self.new) }
-        ensures stays { Stays (Self.gone self.old) (Self.gone self.new) }
+        ensures leaves { Leaves Self.usable Self.side Self.gone Self.failed_read self.old self.new }
         ensures memory { OnErr result (NoneNew Self.usable Self.side Self.gone self.old self.new) };
 
     /// The addresses of a host, at least one. A host without an address is a `Fault`.
@@ -93,8 +101,7 @@ pub trait Port: Files + Drop {
         ensures answer { IfOk result (λ ips. AreTold host.now (Self.told self.old) ips) }
         ensures tells { Self.told self.new ≡ Self.told self.old }
         ensures blames { Blames Lookup (Self.faults self.old) (Self.faults self.new) result }
-        ensures keeps { Keeps (Self.usable self.old) (Self.side self.old) (Self.usable self.new) (Self.side self.new) }
-        ensures stays { Stays (Self.gone self.old) (Self.gone self.new) }
+        ensures leaves { Leaves Self.usable Self.side Self.gone Self.failed_read self.old self.new }
         ensures memory { IsErrOf result Failed.NoMemory → NoneNew Self.usable Self.side Self.gone self.old self.new };
 
     /// Makes a link to an address. After link 4,294,967,295 it fails.
@@ -103,8 +110,7 @@ pub trait Port: Files + Drop {
         ensures link { IfOk result (λ n. Self.usable self.new n × (Self.side self.new n ≡ Side.Connected)) }
         ensures tells { Self.told self.new ≡ after_connect ip port result (Self.told self.old) }
         ensures blames { Blames Connect (Self.faults self.old) (Self.faults self.new) result }
-        ensures keeps { Keeps (Self.usable self.old) (Self.side self.old) (Self.usable self.new) (Self.side self.new) }
-        ensures stays { Stays (Self.gone self.old) (Self.gone self.new) }
+        ensures leaves { Leaves Self.usable Self.side Self.gone Self.failed_read self.old self.new }
         ensures memory { IsErrOf result Failed.NoMemory → NoneNew Self.usable Self.side Self.gone self.old self.new };
 
     /// Reads what has come on a link into the front of a buffer that is not empty. After a `Fault`
@@ -116,8 +122,7 @@ pub trait Port: Files + Drop {
         ensures tells { Self.told self.new ≡ after_read link result buf.new (Self.told self.old) }
         ensures blames { BlamesRead (Self.side self.old link) (Self.faults self.old) (Self.faults self.new) result }
         ensures lost { IsErrOf result Failed.Fault → Self.gone self.new link }
-        ensures keeps { Keeps (Self.usable self.old) (Self.side self.old) (Self.usable self.new) (Self.side self.new) }
-        ensures stays { Stays (Self.gone self.old) (Self.gone self.new) }
+        ensures leaves { Leaves Self.usable Self.side Self.gone Self.failed_read self.old self.new }
         ensures memory { IsErrOf result Failed.NoMemory → NoneNew Self.usable Self.side Self.gone self.old self.new };
 
     /// Sends bytes from the front of a piece that is not empty, and says how many: at least one.
@@ -129,8 +134,7 @@ pub trait Port: Files + Drop {
         ensures tells { Self.told self.new ≡ after_write link result bytes.now (Self.told self.old) }
         ensures blames { BlamesWrite (Self.side self.old link) (Self.faults self.old) (Self.faults self.new) result }
         ensures lost { IsErrOf result Failed.Fault → Self.gone self.new link }
-        ensures keeps { Keeps (Self.usable self.old) (Self.side self.old) (Self.usable self.new) (Self.side self.new) }
-        ensures stays { Stays (Self.gone self.old) (Self.gone self.new) }
+        ensures leaves { Leaves Self.usable Self.side Self.gone Self.failed_read self.old self.new }
         ensures memory { IsErrOf result Failed.NoMemory → NoneNew Self.usable Self.side Self.gone self.old self.new };
 
     /// Whether the link is gone. A port that tells no links may answer that it is not.
@@ -140,8 +144,7 @@ pub trait Port: Files + Drop {
         ensures answer { IsSome (Self.told self.old).links → (IsTrue result ↔ Self.gone self.new link) }
         ensures tells { Self.told self.new ≡ Self.told self.old }
         ensures blames { Self.faults self.new ≡ Self.faults self.old }
-        ensures keeps { Keeps (Self.usable self.old) (Self.side self.old) (Self.usable self.new) (Self.side self.new) }
-        ensures stays { Stays (Self.gone self.old) (Self.gone self.new) };
+        ensures leaves { Leaves Self.usable Self.side Self.gone Self.failed_read self.old self.new };
 
     /// Shuts a link, which from then on may not be used. It makes no link gone.
     fn shut(&mut self, link: LinkNo)
@@ -150,14 +153,14 @@ pub trait Port: Files + Drop {
         ensures tells { Self.told self.new ≡ shut_on link (Self.told self.old) }
         ensures blames { Self.faults self.new ≡ Self.faults self.old }
         ensures keeps { KeepsOthersOf link Self.usable Self.side self.old self.new }
-        ensures stays { (n : LinkNo) → Self.gone self.old n ↔ Self.gone self.new n };
+        ensures stays { (n : LinkNo) → Self.gone self.old n ↔ Self.gone self.new n }
+        ensures path { Self.failed_read self.new ≡ Self.failed_read self.old };
 
     /// May wait a while. It gives nothing.
     fn idle(&mut self)
         ensures tells { Self.told self.new ≡ Self.told self.old }
         ensures blames { Self.faults self.new ≡ Self.faults self.old }
-        ensures keeps { Keeps (Self.usable self.old) (Self.side self.old) (Self.usable self.new) (Self.side self.new) }
-        ensures stays { Stays (Self.gone self.old) (Self.gone self.new) };
+        ensures leaves { Leaves Self.usable Self.side Self.gone Self.failed_read self.old self.new };
 
     /// A usable link is one of the links that are told.
     ghost usable_link: { (p : Self) (n : LinkNo) → Self.usable p n → Has (Self.told p) n };

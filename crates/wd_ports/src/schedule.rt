@@ -1,8 +1,11 @@
-ghost use Rattle.std.specs.Prelude.{◌≡◌, ℕ, ◌+◌, ◌<◌, ◌≤◌, length, map, min, drop, slice_index_or, All, Some, IfSome, IfOk, OnOk, OnErr, IsTrue, ◌↔◌, option_map};
+ghost use Rattle.std.specs.Prelude.{◌≡◌, ◌+◌, ◌<◌, length, map, drop, All};
+ghost use Rattle.std.specs.Prelude.{Some, IfSome, option_map, IfOk, OnOk};
+ghost use Rattle.wd_ports.specs.Faults.{one_more};
 ghost use Rattle.wd_ports.specs.Links.{IsCount};
 ghost use Rattle.wd_ports.specs.Times.{happened, next_mark};
-ghost use Rattle.wd_ports.specs.Streams.{AreStreams, Copied, TakesEvent, reply_got, no_stream, event_link, link_event, link_stream};
-ghost use Rattle.wd_ports.specs.Schedule.{IsPlanned, arrivals_of, is_over, next_place, socket_at, stream_at, arrival_got, arrival_gone};
+ghost use Rattle.wd_ports.specs.Streams.{AreStreams, Copied, TakesEvent, event_link, no_stream, reply_got};
+ghost use Rattle.wd_ports.specs.Schedule.{IsPlanned, arrivals_of, is_over, next_place, socket_at};
+ghost use Rattle.wd_ports.specs.Schedule.{stream_at, arrival_got, arrival_gone};
 
 use crate::clock::Clock;
 use crate::plan::{Peer, PortEvent, Timed};
@@ -163,7 +166,7 @@ impl Schedule {
 
     /// The arrivals up to this one were taken.
     pub fn take_arrival(&mut self, at: usize)
-        ensures { self.new ≡ record self.old { next = min (at + 1) 18446744073709551615 } }
+        ensures { self.new ≡ record self.old { next = one_more at } }
     {
         self.next = at.saturating_add(1);
     }

@@ -9,7 +9,7 @@ use wd_base::LinkNo;
 
 /// Writes all bytes to a link. At an error a part of them, from their front, was sent; after a
 /// `Fault` the link is gone.
-#[tactic(auto, using(crate::proofs::OneLink::sent_more, crate::proofs::OneLink::sent_nothing, crate::proofs::Parts::only_part_same, crate::proofs::Parts::only_part_then))]
+#[tactic(auto, using(crate::proofs::Sending::sending))]
 pub fn write_all<P: Port>(port: &mut P, link: LinkNo, bytes: &[u8]) -> Result<(), Failed>
     requires { P.usable port.old link }
     ensures tells { Sends link bytes.now result (P.told port.old) (P.told port.new) }

@@ -1,4 +1,4 @@
-ghost use Rattle.std.specs.Prelude.{◌≡◌, ℕ, ◌+◌, ◌<◌, ◌≤◌, length, min, take, drop, unwrap_or, option_map, option_copied, nat_le, OnOk, IfSome};
+ghost use Rattle.std.specs.Prelude.{◌≡◌, ◌<◌, ◌≤◌, length, min, take, drop, unwrap_or, OnOk, IfSome};
 ghost use Rattle.wd_ports.specs.Links.{IsCount};
 ghost use Rattle.wd_ports.specs.Streams.{no_stream, with_bytes, with_event, has_happened, next_piece, next_got, Copied};
 

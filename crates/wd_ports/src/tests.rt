@@ -516,8 +516,8 @@ const FILES: [(FileStep, &'static str); 13] = [
     (FileStep::Read("d/a"), "new"),
 ];
 
-/// The first step that the files answer otherwise, and their count after the steps.
-fn try_files(alloc: Global) -> Result<(Option<usize>, FileFaults), NoMemory> {
+/// The first step that the files answer otherwise, and the files after the steps.
+fn try_files(alloc: Global) -> Result<(Option<usize>, MemFiles), NoMemory> {
     let mut files = some_files(alloc)?;
     for at in 0..FILES.len() {
         let text = match FILES[at].0 {
@@ -526,10 +526,10 @@ fn try_files(alloc: Global) -> Result<(Option<usize>, FileFaults), NoMemory> {
             FileStep::Write(path, text) => write_text(alloc, &mut files, path, text)?,
         };
         if text.as_slice() != FILES[at].1.as_bytes() {
-            return Ok((Some(at), files.faults));
+            return Ok((Some(at), files));
         }
     }
-    Ok((None, files.faults))
+    Ok((None, files))
 }
 
 #[test]
@@ -539,7 +539,12 @@ fn files_are_found_by_their_paths(rt: HostRuntime) -> Result<(), Fail> {
         list: 1,
         write: 1,
     };
-    assert_eq!(rt; try_files(rt.alloc())?, (None, once));
+    let (wrong, files) = try_files(rt.alloc())?;
+    assert_eq!(rt; (wrong, files.faults), (None, once));
+    let Some(path) = files.failed_read else {
+        panic!(rt; "no read failed");
+    };
+    assert_eq!(rt; path.as_slice(), b"d/a".as_slice());
     Ok(())
 }
 

@@ -92,6 +92,13 @@ pub struct FileFaults {
     pub write: u64,
 }
 
+/// The count of files that never failed.
+pub const NO_FILE_FAULTS: FileFaults = FileFaults {
+    read: 0,
+    list: 0,
+    write: 0,
+};
+
 /// How often each call of a port has failed, its own files' among them, up to the greatest u64.
 /// Reads and writes of links are counted apart for accepted and for connected links.
 #[derive(Clone, Copy, Debug, PartialEq, Eq)]
@@ -105,3 +112,15 @@ pub struct Faults {
     pub write_accepted: u64,
     pub write_connected: u64,
 }
+
+/// The count of an object that never failed.
+pub const NO_FAULTS: Faults = Faults {
+    files: NO_FILE_FAULTS,
+    listen: 0,
+    lookup: 0,
+    connect: 0,
+    read_accepted: 0,
+    read_connected: 0,
+    write_accepted: 0,
+    write_connected: 0,
+};
