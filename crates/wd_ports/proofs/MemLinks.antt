@@ -13,7 +13,10 @@ use Rattle.wd_ports.specs.Told.{Told, on_link, sent_on, received_on, ended_on, s
 use Rattle.wd_ports.specs.Faults.{one_more}
 use Rattle.wd_ports.specs.Times.{next_mark}
 use Rattle.wd_ports.specs.declared.schedule.Schedule.{Schedule}
+use Rattle.wd_ports.specs.declared.mem_files.MemFiles.{MemFiles}
+use Rattle.wd_ports.specs.Links.{LeavesLinks, NoneNew}
 use Rattle.wd_ports.specs.MemPort.{unseen, called, marked, mem_told, changed, lost, new_mem, blank_mem}
+use Rattle.wd_ports.specs.MemPort.{mem_usable, mem_side, mem_gone, with_files}
 
 -- what the port tells with other links
 abbrev with_links : MemPort → List MemLink → Told
@@ -67,3 +70,10 @@ unseen_marked p schedule items calls t e f = ap (λ s. record { schedule = s; pe
 -- nothing changed
 pub unseen_same : (p : MemPort) (items : List MemLink) → map (λ m. m.source) items ≡ map (λ m. m.source) p.links.items → record { schedule = p.schedule; peers = p.peers; fail = p.fail; calls = p.calls; sources = map (λ m. m.source) items } ≡ unseen p
 unseen_same p items f = ap (λ ss. record { schedule = p.schedule; peers = p.peers; fail = p.fail; calls = p.calls; sources = ss }) f
+
+-- a call on files leaves the links
+pub file_call_leaves : (f : MemFiles) (p : MemPort) → LeavesLinks mem_usable mem_side mem_gone p (with_files f p)
+file_call_leaves f p = record { keeps = λ n u. (u, refl); stays = λ n g. g }
+
+pub file_call_adds_none : (f : MemFiles) (p : MemPort) → NoneNew mem_usable mem_side mem_gone p (with_files f p)
+file_call_adds_none f p = record { keeps = λ n u. (u, refl); stays = λ n g. g }

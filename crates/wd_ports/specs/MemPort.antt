@@ -114,11 +114,6 @@ marked u = record u { schedule = record u.schedule { clock = next_mark u.schedul
 abbrev pub with_files : MemFiles → MemPort → MemPort
 with_files files p = record p { files = files }
 
--- a call of `connect` and its fault were counted
-abbrev pub with_connect_fault : MemPort → MemPort
-with_connect_fault p =
-    record p { calls = one_more p.calls; faults = record p.faults { connect = one_more p.faults.connect } }
-
 -- the next call fails
 abbrev pub fails_next : MemPort → Bool
 fails_next p = is_failing p.fail p.calls

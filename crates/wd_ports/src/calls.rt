@@ -1,8 +1,7 @@
-ghost use Rattle.std.specs.Prelude.{◌≡◌};
-ghost use Rattle.wd_ports.specs.Calls.{is_failing, calls_after, faults_after};
-ghost use Rattle.wd_ports.specs.Faults.{CountsFault};
+ghost use Rattle.std.specs.Prelude.{◌≡◌, ◌≤◌};
+ghost use Rattle.wd_ports.specs.Calls.{is_failing};
+ghost use Rattle.wd_ports.specs.Faults.{one_more};
 
-use crate::told::Failed;
 use wd_base::Numbers;
 
 /// Whether the call of this number is one of those that fail.
@@ -12,18 +11,19 @@ pub fn is_failing(fail: &Numbers, number: u64) -> bool
     fail.as_slice().contains(&number)
 }
 
-/// Counts a call, and its fault. One that wanted memory is not counted.
-pub fn count_call<T>(result: &Result<T, Failed>, calls: &mut u64, faults: &mut u64)
-    ensures calls { calls.new ≡ calls_after result.now calls.old }
-    ensures faults { faults.new ≡ faults_after result.now faults.old }
-    ensures blames { CountsFault faults.old faults.new result.now }
+/// Counts a call.
+pub fn count_call(calls: &mut u64)
+    ensures { calls.new ≡ one_more calls.old }
 {
-    match result {
-        Ok(_) => *calls = calls.saturating_add(1),
-        Err(Failed::Fault) => {
-            *calls = calls.saturating_add(1);
-            *faults = faults.saturating_add(1);
-        }
-        Err(Failed::NoMemory) => {}
-    }
+    *calls = calls.saturating_add(1);
+}
+
+/// Counts a call and its fault.
+pub fn count_fault(calls: &mut u64, faults: &mut u64)
+    ensures calls { calls.new ≡ one_more calls.old }
+    ensures faults { faults.new ≡ one_more faults.old }
+    ensures later { faults.old ≤ faults.new }
+{
+    *calls = calls.saturating_add(1);
+    *faults = faults.saturating_add(1);
 }

@@ -8,7 +8,7 @@ ghost use Rattle.wd_ports.specs.MemFiles.{no_files, files_told, files_faults, no
 ghost use Rattle.wd_ports.specs.MemFiles.{read_fails, files_after_read, files_after_list, files_after_write};
 ghost use Rattle.wd_ports.specs.Told.{file_in, file_limit, is_child, names_among, names_in, names_at, slash};
 
-use crate::calls::{count_call, is_failing};
+use crate::calls::{count_call, count_fault, is_failing};
 use crate::port::{FILE_LIMIT, Files};
 use crate::told::{Failed, FileFaults, FileKind, NO_FILE_FAULTS, Name, Names};
 use std::alloc::Global;
@@ -206,7 +206,8 @@ impl MemFiles {
     fn found(&self, alloc: Global, path: &[u8]) -> Result<Option<Bytes>, Failed>
         ensures found { IfOk result (λ found. found ≡ file_in self.now.files path.now) }
         ensures room { IfOk result (λ found. IfSome found (λ bytes. length bytes ≤ file_limit)) }
-        ensures fault { IsErrOf result Failed.Fault ↔ IsTrue (read_fails self.now path.now) }
+        ensures fault { IsErrOf result Failed.Fault → IsTrue (read_fails self.now path.now) }
+        ensures ok { OnOk result (read_fails self.now path.now ≡ false) }
     {
         if is_failing(&self.fail, self.calls) {
             return Err(Failed::Fault);
@@ -231,28 +232,16 @@ impl MemFiles {
     {
         match self.found(alloc, path.as_bytes()) {
             Ok(found) => {
-                self.calls = self.calls.saturating_add(1);
+                count_call(&mut self.calls);
                 Ok(found)
             }
             Err(Failed::Fault) => {
                 self.failed_read = Some(Seq::copy(alloc, path.as_bytes())?);
-                self.calls = self.calls.saturating_add(1);
-                self.faults.read = self.faults.read.saturating_add(1);
+                count_fault(&mut self.calls, &mut self.faults.read);
                 Err(Failed::Fault)
             }
             Err(Failed::NoMemory) => Err(Failed::NoMemory),
         }
-    }
-
-    /// The names in the folder of a path, before the listing is counted.
-    fn listed(&self, alloc: Global, path: &[u8]) -> Result<Option<Names>, Failed>
-        ensures names { IfOk result (λ found. found ≡ names_at (stored self.now) path.now) }
-        ensures fault { IsErrOf result Failed.Fault ↔ IsTrue (is_failing self.now.fail self.now.calls) }
-    {
-        if is_failing(&self.fail, self.calls) {
-            return Err(Failed::Fault);
-        }
-        Ok(names_of(alloc, &self.files, &self.folders, path)?)
     }
 
     /// The names in the folder of a path.
@@ -261,23 +250,13 @@ impl MemFiles {
         ensures fault { IsErrOf result Failed.Fault ↔ IsTrue (is_failing self.old.fail self.old.calls) }
         ensures after { self.new ≡ files_after_list result self.old }
     {
-        let result = self.listed(alloc, path.as_bytes());
-        count_call(&result, &mut self.calls, &mut self.faults.list);
-        result
-    }
-
-    /// Sets the bytes of the file of a path, before the write is counted.
-    fn set(&mut self, alloc: Global, path: &[u8], bytes: &[u8]) -> Result<(), Failed>
-        ensures ok { OnOk result (IsSet path.now bytes.now self.old.files self.new.files) }
-        ensures err { OnErr result (self.new.files ≡ self.old.files) }
-        ensures fault { IsErrOf result Failed.Fault ↔ IsTrue (is_failing self.old.fail self.old.calls) }
-        ensures rest { self.new ≡ record self.old { files = self.new.files } }
-    {
         if is_failing(&self.fail, self.calls) {
+            count_fault(&mut self.calls, &mut self.faults.list);
             return Err(Failed::Fault);
         }
-        set_file(alloc, &mut self.files, path, bytes)?;
-        Ok(())
+        let names = names_of(alloc, &self.files, &self.folders, path.as_bytes())?;
+        count_call(&mut self.calls);
+        Ok(names)
     }
 
     /// Leaves just these bytes in the first file of a path, or makes one. A write that fails
@@ -288,9 +267,13 @@ impl MemFiles {
         ensures fault { IsErrOf result Failed.Fault ↔ IsTrue (is_failing self.old.fail self.old.calls) }
         ensures after { self.new ≡ files_after_write result self.new.files self.old }
     {
-        let result = self.set(alloc, path.as_bytes(), bytes);
-        count_call(&result, &mut self.calls, &mut self.faults.write);
-        result
+        if is_failing(&self.fail, self.calls) {
+            count_fault(&mut self.calls, &mut self.faults.write);
+            return Err(Failed::Fault);
+        }
+        set_file(alloc, &mut self.files, path.as_bytes(), bytes)?;
+        count_call(&mut self.calls);
+        Ok(())
     }
 }
 

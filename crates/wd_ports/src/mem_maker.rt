@@ -2,7 +2,7 @@ ghost use Rattle.std.specs.Prelude.{◌≡◌, Some, IfOk, IsErrOf, IsTrue, ◌�
 ghost use Rattle.wd_ports.specs.Calls.{is_failing};
 ghost use Rattle.wd_ports.specs.MemPort.{IsMade, empty_plan, plan_at, planned_told};
 
-use crate::calls::{count_call, is_failing};
+use crate::calls::{count_call, count_fault, is_failing};
 use crate::maker::Maker;
 use crate::mem_files::MemFiles;
 use crate::mem_port::MemPort;
@@ -51,27 +51,20 @@ fn plan_of(alloc: Global, plans: &Plans, seat: Seat) -> Result<PortPlan, NoMemor
 impl MemMaker {
     ghost use Rattle.wd_ports.specs.MemMaker.{maker_after};
 
-    /// The port of a seat's plan, before the call is counted.
-    fn planned(&self, alloc: Global, seat: Seat) -> Result<MemPort, Failed>
-        ensures made { IfOk result (IsMade (plan_at self.now.plans seat)) }
-        ensures fault { IsErrOf result Failed.Fault ↔ IsTrue (is_failing self.now.fail self.now.calls) }
-    {
-        if is_failing(&self.fail, self.calls) {
-            return Err(Failed::Fault);
-        }
-        let plan = plan_of(alloc, &self.plans, seat)?;
-        Ok(MemPort::new(alloc, plan)?)
-    }
-
     /// Makes the port of a seat's plan.
     pub fn make(&mut self, alloc: Global, seat: Seat) -> Result<MemPort, Failed>
         ensures made { IfOk result (IsMade (plan_at self.old.plans seat)) }
         ensures fault { IsErrOf result Failed.Fault ↔ IsTrue (is_failing self.old.fail self.old.calls) }
         ensures after { self.new ≡ maker_after result self.old }
     {
-        let result = self.planned(alloc, seat);
-        count_call(&result, &mut self.calls, &mut self.faults);
-        result
+        if is_failing(&self.fail, self.calls) {
+            count_fault(&mut self.calls, &mut self.faults);
+            return Err(Failed::Fault);
+        }
+        let plan = plan_of(alloc, &self.plans, seat)?;
+        let port = MemPort::new(alloc, plan)?;
+        count_call(&mut self.calls);
+        Ok(port)
     }
 }
 

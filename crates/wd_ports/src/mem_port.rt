@@ -3,11 +3,11 @@ ghost use Rattle.std.specs.Prelude.{IfOk, OnOk, OnErr, IsErrOf, IsSome, IfSome, 
 ghost use Rattle.wd_base.specs.declared.ids.LinkNo.{LinkNo};
 ghost use Rattle.wd_ports.specs.Calls.{is_failing};
 ghost use Rattle.wd_ports.specs.Faults.{Blames, BlamesRead, BlamesWrite, Listen, Lookup, Connect, ReadLink, WriteLink};
-ghost use Rattle.wd_ports.specs.Faults.{part, most_u64, with_one_more};
+ghost use Rattle.wd_ports.specs.Faults.{part, most_u64, one_more, with_one_more};
 ghost use Rattle.wd_ports.specs.Links.{IsCount, IsFresh, IsNext, UsableLink, Leaves, KeepsOthersOf, NoneNew, side_of};
 ghost use Rattle.wd_ports.specs.MemPort.{mem_told, mem_faults, mem_failed_read, mem_usable, mem_side, mem_gone};
 ghost use Rattle.wd_ports.specs.MemPort.{unseen, called, called_for, marked, taken, connected};
-ghost use Rattle.wd_ports.specs.MemPort.{with_files, with_connect_fault, total_faults};
+ghost use Rattle.wd_ports.specs.MemPort.{with_files, total_faults};
 ghost use Rattle.wd_ports.specs.MemPort.{fails_next, listen_fails, lookup_fails, connect_fails, IsMade};
 ghost use Rattle.wd_ports.specs.MemPort.{answer_at, accept_place, host_ips, peer_place, link_got, link_gone, unread};
 ghost use Rattle.wd_ports.specs.MemPort.{mem_link, new_mem, changed, lost, source_got, source_bytes};
@@ -15,7 +15,7 @@ ghost use Rattle.wd_ports.specs.Streams.{Copied};
 ghost use Rattle.wd_ports.specs.Told.{AreTold, AreFound, link_of, with_sent, with_received, with_end, with_shut};
 ghost use Rattle.wd_ports.specs.Told.{after_listen, after_accept, after_connect, after_read, after_write, shut_on};
 
-use crate::calls::{count_call, is_failing};
+use crate::calls::{count_call, count_fault, is_failing};
 use crate::mem_files::MemFiles;
 use crate::plan::{Hosts, Peers, PortPlan};
 use crate::port::{Files, Port};
@@ -309,23 +309,27 @@ fn find_peer(peers: &Peers, ip: Ip4, port: u16) -> Option<usize>
         .position(|peer| peer.ip.0 == ip.0 && peer.port == port)
 }
 
-fn count_read(faults: &mut Faults, origin: LinkOrigin)
+/// Counts a read of a link of this origin that fails.
+fn count_read(calls: &mut u64, faults: &mut Faults, origin: LinkOrigin)
+    ensures calls { calls.new ≡ one_more calls.old }
     ensures fits { part (ReadLink (side_of origin)) faults.old ≤ most_u64 }
     ensures more { faults.new ≡ with_one_more (ReadLink (side_of origin)) faults.old }
 {
     match origin {
-        LinkOrigin::Socket(_) => faults.read_accepted = faults.read_accepted.saturating_add(1),
-        LinkOrigin::Peer(_, _) => faults.read_connected = faults.read_connected.saturating_add(1),
+        LinkOrigin::Socket(_) => count_fault(calls, &mut faults.read_accepted),
+        LinkOrigin::Peer(_, _) => count_fault(calls, &mut faults.read_connected),
     }
 }
 
-fn count_write(faults: &mut Faults, origin: LinkOrigin)
+/// Counts a write of a link of this origin that fails.
+fn count_write(calls: &mut u64, faults: &mut Faults, origin: LinkOrigin)
+    ensures calls { calls.new ≡ one_more calls.old }
     ensures fits { part (WriteLink (side_of origin)) faults.old ≤ most_u64 }
     ensures more { faults.new ≡ with_one_more (WriteLink (side_of origin)) faults.old }
 {
     match origin {
-        LinkOrigin::Socket(_) => faults.write_accepted = faults.write_accepted.saturating_add(1),
-        LinkOrigin::Peer(_, _) => faults.write_connected = faults.write_connected.saturating_add(1),
+        LinkOrigin::Socket(_) => count_fault(calls, &mut faults.write_accepted),
+        LinkOrigin::Peer(_, _) => count_fault(calls, &mut faults.write_connected),
     }
 }
 
@@ -351,49 +355,6 @@ fn read_source(
     }
 }
 
-impl MemPort {
-    /// Adds a socket, before the call of `listen` is counted.
-    fn add_socket(&mut self, alloc: Global, address: &Addr) -> Result<SockNo, Failed>
-        ensures fails { IsErrOf result Failed.Fault ↔ IsTrue (listen_fails self.old) }
-        ensures number { IfOk result (λ s. s.0 ≡ length self.old.sockets) }
-        ensures tells { mem_told self.new ≡ after_listen address.now result (mem_told self.old) }
-        ensures rest { self.new ≡ record self.old { sockets = self.new.sockets } }
-    {
-        if is_failing(&self.fail, self.calls) {
-            return Err(Failed::Fault);
-        }
-        let Ok(number) = u32::try_from(self.sockets.len()) else {
-            return Err(Failed::Fault);
-        };
-        let address = address.try_clone(alloc)?;
-        self.sockets.push(address)?;
-        Ok(SockNo(number))
-    }
-
-    /// The addresses of a host, before the call of `lookup` is counted.
-    fn find_ips(&self, alloc: Global, host: &[u8]) -> Result<Ips, Failed>
-        ensures fails { IsErrOf result Failed.Fault ↔ IsTrue (lookup_fails self.now host.now) }
-        ensures some { IfOk result (λ ips. 0 < length ips) }
-        ensures answer { IfOk result (λ ips. AreTold host.now (mem_told self.now) ips) }
-    {
-        if is_failing(&self.fail, self.calls) {
-            return Err(Failed::Fault);
-        }
-        match find_host(alloc, &self.hosts, host)? {
-            Some(ips) => Ok(ips),
-            None => Err(Failed::Fault),
-        }
-    }
-
-    /// Counts a call of `connect` and its fault.
-    fn count_connect_fault(&mut self)
-        ensures { self.new ≡ with_connect_fault self.old }
-    {
-        self.calls = self.calls.saturating_add(1);
-        self.faults.connect = self.faults.connect.saturating_add(1);
-    }
-}
-
 impl Port for MemPort {
     fn listen(&mut self, alloc: Global, address: &Addr) -> Result<SockNo, Failed>
         ensures fails { IsErrOf result Failed.Fault ↔ IsTrue (listen_fails self.old) }
@@ -404,9 +365,18 @@ impl Port for MemPort {
         ensures leaves { Leaves mem_usable mem_side mem_gone mem_failed_read self.old self.new }
         ensures memory { IsErrOf result Failed.NoMemory → NoneNew mem_usable mem_side mem_gone self.old self.new }
     {
-        let result = self.add_socket(alloc, address);
-        count_call(&result, &mut self.calls, &mut self.faults.listen);
-        result
+        if is_failing(&self.fail, self.calls) {
+            count_fault(&mut self.calls, &mut self.faults.listen);
+            return Err(Failed::Fault);
+        }
+        let Ok(number) = u32::try_from(self.sockets.len()) else {
+            count_fault(&mut self.calls, &mut self.faults.listen);
+            return Err(Failed::Fault);
+        };
+        let address = address.try_clone(alloc)?;
+        self.sockets.push(address)?;
+        count_call(&mut self.calls);
+        Ok(SockNo(number))
     }
 
     fn accept(&mut self, alloc: Global) -> Result<Accepted, NoMemory>
@@ -454,9 +424,20 @@ impl Port for MemPort {
         ensures leaves { Leaves mem_usable mem_side mem_gone mem_failed_read self.old self.new }
         ensures memory { IsErrOf result Failed.NoMemory → NoneNew mem_usable mem_side mem_gone self.old self.new }
     {
-        let result = self.find_ips(alloc, host.as_bytes());
-        count_call(&result, &mut self.calls, &mut self.faults.lookup);
-        result
+        if is_failing(&self.fail, self.calls) {
+            count_fault(&mut self.calls, &mut self.faults.lookup);
+            return Err(Failed::Fault);
+        }
+        match find_host(alloc, &self.hosts, host.as_bytes())? {
+            Some(ips) => {
+                count_call(&mut self.calls);
+                Ok(ips)
+            }
+            None => {
+                count_fault(&mut self.calls, &mut self.faults.lookup);
+                Err(Failed::Fault)
+            }
+        }
     }
 
     fn connect(&mut self, alloc: Global, ip: Ip4, port: u16) -> Result<LinkNo, Failed>
@@ -472,16 +453,16 @@ impl Port for MemPort {
     {
         let number = self.links.len();
         if is_failing(&self.fail, self.calls) || number >= u32::MAX as usize {
-            self.count_connect_fault();
+            count_fault(&mut self.calls, &mut self.faults.connect);
             return Err(Failed::Fault);
         }
         let Some(peer) = find_peer(&self.peers, ip, port) else {
-            self.count_connect_fault();
+            count_fault(&mut self.calls, &mut self.faults.connect);
             return Err(Failed::Fault);
         };
         let origin = LinkOrigin::Peer(ip, port);
         add_link(alloc, &mut self.links, origin, Source::Peer(peer))?;
-        self.calls = self.calls.saturating_add(1);
+        count_call(&mut self.calls);
         self.schedule.mark();
         Ok(LinkNo(number as u32 + 1))
     }
@@ -502,8 +483,11 @@ impl Port for MemPort {
     {
         let at = link.0 as usize - 1;
         if is_failing(&self.fail, self.calls) {
-            self.calls = self.calls.saturating_add(1);
-            count_read(&mut self.faults, self.links[at].told.origin);
+            count_read(
+                &mut self.calls,
+                &mut self.faults,
+                self.links[at].told.origin,
+            );
             set_gone(&mut self.links, at);
             return Err(Failed::Fault);
         }
@@ -515,7 +499,7 @@ impl Port for MemPort {
             Got::Later => {}
             Got::End => set_ended(&mut self.links, at),
         }
-        self.calls = self.calls.saturating_add(1);
+        count_call(&mut self.calls);
         Ok(got)
     }
 
@@ -535,13 +519,16 @@ impl Port for MemPort {
     {
         let at = link.0 as usize - 1;
         if is_failing(&self.fail, self.calls) {
-            self.calls = self.calls.saturating_add(1);
-            count_write(&mut self.faults, self.links[at].told.origin);
+            count_write(
+                &mut self.calls,
+                &mut self.faults,
+                self.links[at].told.origin,
+            );
             set_gone(&mut self.links, at);
             return Err(Failed::Fault);
         }
         add_sent(&mut self.links, at, bytes)?;
-        self.calls = self.calls.saturating_add(1);
+        count_call(&mut self.calls);
         self.schedule.mark();
         Ok(bytes.len())
     }

@@ -1,7 +1,7 @@
 ghost use Rattle.std.specs.Prelude.{◌≡◌, length, Some, IfOk, IsErrOf, IsTrue, ◌↔◌};
 ghost use Rattle.wd_ports.specs.Calls.{is_failing};
 
-use crate::calls::{count_call, is_failing};
+use crate::calls::{count_call, count_fault, is_failing};
 use crate::sink::Sink;
 use crate::told::Failed;
 use wd_base::{Bytes, Numbers};
@@ -28,12 +28,11 @@ impl MemSink {
         ensures after { self.new ≡ sink_after result bytes.now self.old }
     {
         if is_failing(&self.fail, self.calls) {
-            self.calls = self.calls.saturating_add(1);
-            self.faults = self.faults.saturating_add(1);
+            count_fault(&mut self.calls, &mut self.faults);
             return Err(Failed::Fault);
         }
         self.bytes.extend(bytes)?;
-        self.calls = self.calls.saturating_add(1);
+        count_call(&mut self.calls);
         Ok(bytes.len())
     }
 }

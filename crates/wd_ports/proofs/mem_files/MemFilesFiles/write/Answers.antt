@@ -1,4 +1,4 @@
-use Rattle.std.proofs.Common.{arith}
+use Rattle.std.proofs.Common.{ap, arith}
 use Rattle.wd_ports.specs.Faults.{WriteFile}
 use Rattle.wd_ports.specs.MemFiles.{files_told, files_faults}
 use Rattle.wd_ports.proofs.CallCounts.{blames_after}
@@ -10,3 +10,6 @@ returns-clause-tells c = rw c.write_file.ensures.after (writes_told c.write_file
 
 pub returns-clause-blames : goal.returns-clause-blames
 returns-clause-blames c = rw c.write_file.ensures.after (blames_after WriteFile (files_faults c.args.self.now) c.write_file.result (omega arith))
+
+pub returns-clause-path : goal.returns-clause-path
+returns-clause-path c = ap (λ f. f.failed_read) c.write_file.ensures.after

@@ -1,7 +1,8 @@
-use Rattle.std.proofs.Common.{arith}
+use Rattle.std.proofs.Common.{ap, arith}
 use Rattle.wd_ports.specs.Faults.{WriteFile}
-use Rattle.wd_ports.specs.MemPort.{mem_told, mem_faults}
+use Rattle.wd_ports.specs.MemPort.{mem_told, mem_faults, mem_failed_read}
 use Rattle.wd_ports.proofs.CallCounts.{blames_after}
+use Rattle.wd_ports.proofs.MemLinks.{file_call_leaves, file_call_adds_none}
 use Rattle.wd_ports.proofs.Stores.{writes_told}
 use Rattle.wd_ports.proofs.mem_port.MemPortFiles.write.Goals as goal
 
@@ -10,3 +11,12 @@ returns-clause-tells c = rw c.write_file.ensures.after (writes_told c.write_file
 
 pub returns-clause-blames : goal.returns-clause-blames
 returns-clause-blames c = rw c.write_file.ensures.after (blames_after WriteFile (mem_faults c.args.self.now) c.write_file.result (omega arith))
+
+pub returns-clause-path : goal.returns-clause-path
+returns-clause-path c = ap mem_failed_read c.write_file.ensures.after
+
+pub returns-clause-leaves : goal.returns-clause-leaves
+returns-clause-leaves c = rw c.write_file.ensures.after (file_call_leaves _ c.args.self.now)
+
+pub returns-clause-memory : goal.returns-clause-memory
+returns-clause-memory c = λ e. rw c.write_file.ensures.after (file_call_adds_none _ c.args.self.now)
