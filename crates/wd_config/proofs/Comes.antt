@@ -70,3 +70,6 @@ gives_comes t (Ok x) g = given_comes t x g
 gives_comes t (Err (Refuse f)) g = given_stops t f g
 gives_comes t (Err (Failed w)) g = absurd g
 gives_comes t (Err NoMemory) g = tt
+
+-- how a reading goes on, or stops
+pub ruleset coming = (comes_then, stops_then, gives_comes)

@@ -20,3 +20,4 @@ pub mod ToldLaws
 pub mod SoundLaws
 pub mod DeepLaws
 pub mod RoomLaws
+pub mod ListRules

@@ -1,5 +1,6 @@
 -- Addresses to listen at and to connect to.
-use Rattle.std.specs.Prelude.{◌≡◌, ◌⊎◌, ◌<◌, ◌≤◌, ◌==◌, ◌||◌, ℕ, Bool, IsTrue, List, ◌∷◌, ◌++◌, length, codes, ◌↔◌, Option, Some}
+use Rattle.std.specs.Prelude.{◌≡◌, ◌⊎◌, ◌↔◌, ◌<◌, ◌≤◌, ◌==◌, ◌||◌, ℕ, Bool, IsTrue}
+use Rattle.std.specs.Prelude.{List, ◌∷◌, ◌++◌, length, codes, Option, Some}
 use Rattle.std.specs.Char.{is_ascii_alphanumeric}
 use Rattle.std.specs.Fmt.{decimal}
 use Rattle.std.specs.List.{All}
@@ -43,7 +44,8 @@ IsHostName host = (0 < length host) × All (λ b. IsTrue (is_host_byte b)) host
 
 -- a host name alone, where the port is 80, or a host name, `:` and a port
 abbrev pub IsNameAndPort : List ℕ → Addr → Type 0
-IsNameAndPort text address = ((text ≡ address.host) × (address.port ≡ 80)) ⊎ ((text ≡ address.host ++ colon ∷ decimal address.port) × IsPort address.port)
+IsNameAndPort text address = ((text ≡ address.host) × (address.port ≡ 80))
+    ⊎ ((text ≡ address.host ++ colon ∷ decimal address.port) × IsPort address.port)
 
 -- the text is a host name, and perhaps a port; this is the address that it stands for
 pub record IsExternalAddress (text : List ℕ) (address : Addr) : Type 0 where

@@ -1,5 +1,6 @@
 -- What a text means as a configuration.
-use Rattle.std.specs.Prelude.{◌≡◌, ℕ, List, [], ◌∷◌, ◌⊎◌, Option, Result, Ok, Err, Bor}
+use Rattle.std.specs.Prelude.{◌≡◌, ℕ, List, [], ◌∷◌, ◌⊎◌, Option, Result, Ok, Err}
+use Rattle.std.specs.Borrow.{Bor}
 use Rattle.std.specs.List.{All}
 use Rattle.wd_base.specs.declared.config.Config.{Config}
 use Rattle.wd_ports.specs.Told.{Stored, Told}
@@ -16,7 +17,8 @@ use Rattle.wd_config.specs.Reading.{Read, refuse, Tells}
 use Rattle.wd_config.specs.Configured.{configured, name_given}
 
 -- the bytes are this file's text, and the file is read so
-pub record OfFile (bytes : List ℕ) (name : Option (List ℕ)) (folder : List ℕ) (files : Option Stored) (r : Read Config) : Type 0 where
+pub record OfFile (bytes : List ℕ) (name : Option (List ℕ)) (folder : List ℕ) (files : Option Stored)
+    (r : Read Config) : Type 0 where
   pub file : List Decl
   pub text : IsText file bytes
   pub is : r ≡ configured name folder files file
@@ -33,8 +35,10 @@ Answers bytes name folder files r = OfFile bytes name folder files r ⊎ OfFault
 
 -- what is answered is what the bytes mean, unless memory ran out
 abbrev pub Answered : List ℕ → Option (List ℕ) → List ℕ → Option Stored → Result Config ConfigEnd → Type 0
-Answered bytes name folder files (Ok config) = (r : Read Config) × Answers bytes name folder files r × Tells r (Ok config)
-Answered bytes name folder files (Err (Fault f)) = (r : Read Config) × Answers bytes name folder files r × Tells r (Err (Fault f))
+Answered bytes name folder files (Ok config) =
+    (r : Read Config) × Answers bytes name folder files r × Tells r (Ok config)
+Answered bytes name folder files (Err (Fault f)) =
+    (r : Read Config) × Answers bytes name folder files r × Tells r (Err (Fault f))
 Answered bytes name folder files (Err NoMemory) = Unit {0}
 
 -- the same for the name that is given, with the files as they are observed

@@ -74,7 +74,7 @@ abbrev pub sockets_of : Option Item → List Socket
 sockets_of (Some (item.Sockets ss)) = ss
 sockets_of _ = []
 
--- ---- a field that is needed: where it is missing, the fault stands at the struct's bracket and carries the field's name
+-- ---- a field that is needed: where it is missing, the fault stands at the struct's bracket and carries its name
 
 -- a field that must be there: without it the struct is refused at its offset, under the field's name
 abbrev pub needed : {A : Type 0} → ℕ → List ℕ → Option A → Given A
@@ -94,7 +94,10 @@ public_ranges = record { class = class.Public; base = record { 0 = 0 }; bits = 0
 
 -- a `Config` by its fields: services and sockets, neither of which is required
 abbrev pub config : List Entry → Given Item
-config es = Ok (item.Config (record { services = services_of (item_of es slot.Services); sockets = sockets_of (item_of es slot.Sockets) }))
+config es = Ok (item.Config (record {
+  services = services_of (item_of es slot.Services);
+  sockets = sockets_of (item_of es slot.Sockets);
+}))
 
 -- a `Service` by its fields: a name and what it is, both required
 abbrev pub service : ℕ → List Entry → Given Item
@@ -107,7 +110,12 @@ service p es =
 abbrev pub worker : ℕ → List Entry → Given Item
 worker p es =
     script p (source_of (item_of es slot.Script)) >>= λ it.
-    Ok (item.Kind (what.Worker (record { form = it.0; source = it.1; bindings = bindings_of (item_of es slot.Bindings); outbound = unwrap_or (text_of (item_of es slot.Outbound)) (codes "internet") })))
+    Ok (item.Kind (what.Worker (record {
+      form = it.0;
+      source = it.1;
+      bindings = bindings_of (item_of es slot.Bindings);
+      outbound = unwrap_or (text_of (item_of es slot.Outbound)) (codes "internet");
+    })))
 
 -- the name of a module is asked for, and kept nowhere
 abbrev pub module_of : ℕ → List Entry → Given Item
@@ -129,17 +137,25 @@ designator p es = needed p (codes "name") (text_of (item_of es slot.Name)) >>= �
 
 -- a `Network` by its fields: ranges allowed, the public ones by default, and ranges denied
 abbrev pub network : List Entry → Given Item
-network es = Ok (item.Kind (what.Network (record { allow = ranges_or public_ranges (item_of es slot.Allow); deny = ranges_or [] (item_of es slot.Deny) })))
+network es = Ok (item.Kind (what.Network (record {
+  allow = ranges_or public_ranges (item_of es slot.Allow);
+  deny = ranges_or [] (item_of es slot.Deny);
+})))
 
 -- an `ExternalServer` by its fields: an address, which is required
 abbrev pub external : ℕ → List Entry → Given Item
-external p es = needed p (codes "address") (address_of (item_of es slot.Address)) >>= λ address. Ok (item.Kind (what.External address))
+external p es = needed p (codes "address") (address_of (item_of es slot.Address)) >>= λ address.
+    Ok (item.Kind (what.External address))
 
 -- a `DiskDirectory` by its fields: a path, which is required, and two flags
 abbrev pub disk : ℕ → List Entry → Given Item
 disk p es =
     needed p (codes "path") (text_of (item_of es slot.Path)) >>= λ path.
-    Ok (item.Kind (what.Disk (record { path = path; writable = flag_of (item_of es slot.Writable); dotfiles = flag_of (item_of es slot.Dotfiles) })))
+    Ok (item.Kind (what.Disk (record {
+      path = path;
+      writable = flag_of (item_of es slot.Writable);
+      dotfiles = flag_of (item_of es slot.Dotfiles);
+    })))
 
 -- a `Socket` by its fields: name, address and service, all required
 abbrev pub socket : ℕ → List Entry → Given Item

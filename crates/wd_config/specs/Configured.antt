@@ -1,5 +1,7 @@
 -- The configuration of a file.
-use Rattle.std.specs.Prelude.{ℕ, ◌+◌, Bool, false, ◌&&◌, ◌||◌, List, [], ◌∷◌, Option, Some, None, Ok, codes, slice_get, if◌then◌else◌, Bor}
+use Rattle.std.specs.Prelude.{ℕ, ◌+◌, Bool, false, ◌&&◌, ◌||◌, if◌then◌else◌, Option, Some, None, Ok}
+use Rattle.std.specs.Prelude.{List, [], ◌∷◌, codes, slice_get}
+use Rattle.std.specs.Borrow.{Bor}
 use Rattle.std.specs.Option.{option_map}
 use Rattle.std.specs.Str.{bytes_eq}
 use Rattle.wd_base.specs.declared.config.Config.{Config}
@@ -44,7 +46,9 @@ declared i t (d ∷ ds) = declared_at i t d >>=G λ u. declared (i + 1) u ds
 
 -- one file alone is imported
 abbrev pub import_of : Decl → Given (Unit {0})
-import_of (decl.Using n path) = if bytes_eq path.bytes (codes "/workerd/workerd.capnp") then Ok tt else fault kind.LeftOut path.place (codes "import")
+import_of (decl.Using n path) = if bytes_eq path.bytes (codes "/workerd/workerd.capnp")
+    then Ok tt
+    else fault kind.LeftOut path.place (codes "import")
 import_of (decl.Const n ty v) = Ok tt
 import_of (decl.Id id) = Ok tt
 
@@ -60,8 +64,9 @@ is_plain name = bytes_eq name (codes "Text") || bytes_eq name (codes "Data")
 -- a struct of the schema that a constant may be of
 abbrev pub is_struct : List ℕ → Bool
 is_struct name =
-    bytes_eq name (codes "Config") || (bytes_eq name (codes "Service") || (bytes_eq name (codes "Worker") || (bytes_eq name (codes "Socket")
-    || (bytes_eq name (codes "Network") || (bytes_eq name (codes "ExternalServer") || bytes_eq name (codes "DiskDirectory"))))))
+    bytes_eq name (codes "Config") || (bytes_eq name (codes "Service") || (bytes_eq name (codes "Worker")
+    || (bytes_eq name (codes "Socket") || (bytes_eq name (codes "Network")
+    || (bytes_eq name (codes "ExternalServer") || bytes_eq name (codes "DiskDirectory"))))))
 
 -- `Text`, `Data`, or an alias, `.` and the name of a struct
 abbrev pub is_type : Names → List Placed → Bool
@@ -76,7 +81,8 @@ type_place (a ∷ more) = a.place
 
 -- a constant's type is one that is supported; any other is refused by name
 abbrev pub type_of : Names → Decl → Given (Unit {0})
-type_of aliases (decl.Const n ty v) = if is_type aliases ty then Ok tt else fault kind.LeftOut (type_place ty) (codes "type")
+type_of aliases (decl.Const n ty v) =
+    if is_type aliases ty then Ok tt else fault kind.LeftOut (type_place ty) (codes "type")
 type_of aliases (decl.Using n path) = Ok tt
 type_of aliases (decl.Id id) = Ok tt
 
@@ -135,7 +141,9 @@ root_of r = record { at = r.at; label = r.label.now; value = r.value.now }
 
 -- a declaration as a configuration's root: a constant of type `Config`, or there is no such constant
 abbrev pub rooted : ℕ → List ℕ → Option Decl → Given Rooted
-rooted i name (Some (decl.Const n ty v)) = if is_config_type ty then Ok (record { at = i; label = n; value = v }) else fault kind.NoSuchConst 0 name
+rooted i name (Some (decl.Const n ty v)) = if is_config_type ty
+    then Ok (record { at = i; label = n; value = v })
+    else fault kind.NoSuchConst 0 name
 rooted i name _ = fault kind.NoSuchConst 0 name
 
 -- the root at this number of a declaration, if a constant of the name was found
@@ -160,7 +168,8 @@ config_in i = needed 0 [] (config_of i)
 
 -- the root read as a struct `Config`, with the root itself among the constants that are open
 abbrev pub rooted_config : Context → Rooted → Read Config
-rooted_config c r = value_item most_levels c (r.at ∷ []) [] r.label (shape.Struct struct.Config) r.value >>= λ i. given (config_in i)
+rooted_config c r =
+    value_item most_levels c (r.at ∷ []) [] r.label (shape.Struct struct.Config) r.value >>= λ i. given (config_in i)
 
 -- the reading of a file's configuration: the name of its constant, if one is named, the folder and the files
 unfoldable pub configured : Option (List ℕ) → List ℕ → Option Stored → List Decl → Read Config

@@ -1,5 +1,6 @@
 -- What the texts of values are.
-use Rattle.std.specs.Prelude.{ℕ, zero, suc, nat_le, Bool, true, false, ◌&&◌, ◌||◌, ◌==◌, List, [], ◌∷◌, length, take, drop, codes, Option, Some, None, if◌then◌else◌}
+use Rattle.std.specs.Prelude.{ℕ, zero, suc, nat_le, Bool, true, false, ◌&&◌, ◌||◌, ◌==◌, if◌then◌else◌}
+use Rattle.std.specs.Prelude.{List, [], ◌∷◌, length, take, drop, codes, Option, Some, None}
 use Rattle.std.specs.Fmt.{decimal}
 use Rattle.std.specs.List.{list_all}
 use Rattle.std.specs.Str.{bytes_eq}
@@ -63,7 +64,8 @@ named c = record { class = c; base = record { 0 = 0 }; bits = 0 }
 
 -- a text as a CIDR block: an address, a slash and up to 32 bits (RFC 4632, section 3.1)
 unfoldable pub block : List ℕ → Option Range
-block text = cut slash text >>= λ c. ip4 c.0 >>= λ ip. number 32 c.1 >>= λ n. Some (record { class = class.Block; base = ip; bits = n })
+block text = cut slash text >>= λ c. ip4 c.0 >>= λ ip. number 32 c.1 >>= λ n.
+    Some (record { class = class.Block; base = ip; bits = n })
 
 -- a named range, if the text is such a name; else a block
 abbrev pub class_or_block : Option RangeClass → Option Range → Option Range

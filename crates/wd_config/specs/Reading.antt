@@ -18,8 +18,8 @@ pub data Answer (A : Type 0) : Type 0 where
   -- the files do not tell what an embed holds
   Untold : Answer A
 
--- the embeds that are come to, in order, each by the place of its path and the path as written, and the answer where each
--- of them can be read
+-- the embeds that are come to, in order, each by the place of its path and the path as written, and the answer where
+-- each of them can be read
 pub record Read (A : Type 0) : Type 0 where
   pub embeds : List Placed
   pub answer : Answer A

@@ -51,7 +51,8 @@ reader_in levels s told open_ = value_item levels (context s told) open_
 
 -- this was read of a value by its shape, where so many values may stand in one another
 abbrev pub IsValue : ℕ → Scope → Told → List ℕ → Names → Placed → Shape → Value → Result Item Stop → Type 0
-IsValue levels s told open_ taken label x v result = Comes (value_item levels (context s told) open_ taken label x v) result
+IsValue levels s told open_ taken label x v result =
+    Comes (value_item levels (context s told) open_ taken label x v) result
 
 -- this was read of a value that is no `.NAME`, by its shape, where so many may stand in it
 abbrev pub IsShaped : ℕ → Scope → Told → List ℕ → Names → Placed → Shape → Value → Result Item Stop → Type 0
@@ -68,7 +69,8 @@ IsList levels s told open_ label k v result =
     Comes (listed (reader_in levels s told open_) label k (place_of v) (as_list v)) result
 
 -- this was made of the fields of a struct by one more
-abbrev pub IsField : ℕ → Scope → Told → List ℕ → Names → StructKind → List Entry → Field → Result (List Entry) Stop → Type 0
+abbrev pub IsField : ℕ → Scope → Told → List ℕ → Names → StructKind → List Entry → Field → Result (List Entry) Stop
+    → Type 0
 IsField levels s told open_ taken k es f result = Comes (field_step (reader_in levels s told open_) taken k es f) result
 
 -- this was read of a value as a struct: of its fields in order, or of the bare text that stands for it

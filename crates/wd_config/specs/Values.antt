@@ -1,5 +1,6 @@
 -- What a value is read to.
-use Rattle.std.specs.Prelude.{ℕ, zero, suc, ◌+◌, nat_eq, ◌==◌, nat_lt, Bool, true, false, not, ◌&&◌, List, [], ◌∷◌, ◌++◌, length, Option, Some, None, Ok, codes, slice_get, if◌then◌else◌}
+use Rattle.std.specs.Prelude.{ℕ, zero, suc, ◌+◌, nat_eq, ◌==◌, nat_lt, Bool, true, false, not, ◌&&◌, if◌then◌else◌}
+use Rattle.std.specs.Prelude.{List, [], ◌∷◌, ◌++◌, length, codes, slice_get, Option, Some, None, Ok}
 use Rattle.std.specs.List.{list_any}
 use Rattle.std.specs.Option.{option_map}
 use Rattle.std.specs.Str.{bytes_eq, is_utf8}
@@ -46,8 +47,8 @@ use Rattle.wd_config.specs.Names.{Names, put, number_of, has_name}
 use Rattle.wd_config.specs.Reading.{Read, done, given, along, Found, Refused, Untold, ◌>>=◌}
 use Rattle.wd_config.specs.Schema.{rule_of}
 
--- where values are read: the file and its constants, each with the place of its declaration; the folder; and the files, where
--- they are told
+-- where values are read: the file and its constants, each with the place of its declaration; the folder; and the files,
+-- where they are told
 pub record Context : Type 0 where
   pub file : List Decl
   pub constants : Names
@@ -161,14 +162,16 @@ entered open_ i p w (Some v) = Ok (open_ ++ i ∷ [], v)
 -- a reference to a constant: refused if there is none of the name, or if it is open already
 abbrev pub opened_at : List Decl → List ℕ → ℕ → Placed → Option ℕ → Given InPlace
 opened_at file open_ p w None = fault kind.NoSuchConst p w.bytes
-opened_at file open_ p w (Some i) = if among open_ i then fault kind.ConstLoop p w.bytes else entered open_ i p w (value_at file i)
+opened_at file open_ p w (Some i) =
+    if among open_ i then fault kind.ConstLoop p w.bytes else entered open_ i p w (value_at file i)
 
 -- the value of the constant that a `.name` at p stands for; the constant is opened
 unfoldable pub opened : List Decl → Names → List ℕ → ℕ → Placed → Given InPlace
 opened file constants open_ p w = opened_at file open_ p w (number_of constants w.bytes)
 
 -- a value that is no reference; else that of the constant, followed in turn
-abbrev pub followed : (InPlace → Given InPlace) → List Decl → Names → List ℕ → Value → Option (ℕ × Placed) → Given InPlace
+abbrev pub followed : (InPlace → Given InPlace) → List Decl → Names → List ℕ → Value → Option (ℕ × Placed)
+    → Given InPlace
 followed go file constants open_ v None = Ok (open_, v)
 followed go file constants open_ v (Some k) = opened file constants open_ k.0 k.1 >>=G go
 
@@ -213,7 +216,10 @@ full_path folder path = if is_absolute path then path else folder ++ path
 -- the bytes of an embedded file; a fault where there is no such file
 abbrev pub loaded : ℕ → Placed → Option (Option (List ℕ)) → Read Placed
 loaded p w None = record { embeds = w ∷ []; answer = Untold }
-loaded p w (Some None) = record { embeds = w ∷ []; answer = Refused (config_fault (record { kind = kind.EmbedMissing; place = w.place; name = w.bytes })) }
+loaded p w (Some None) = record {
+  embeds = w ∷ [];
+  answer = Refused (config_fault (record { kind = kind.EmbedMissing; place = w.place; name = w.bytes }));
+}
 loaded p w (Some (Some bytes)) = record { embeds = w ∷ []; answer = Found (record { place = p; bytes = bytes }) }
 
 -- the bytes, where they are UTF-8
@@ -251,7 +257,8 @@ source c label k v = sourced c label (place_of v) (as_text v) (data_for k v) (as
 
 -- a JSON binding, if its text is JSON (RFC 8259, section 2); else a fault
 abbrev pub json_item : Placed → ℕ → List ℕ → Given Item
-json_item label p units = if accepts start units then Ok (item.Value (bound.Json units)) else fault kind.BadJson p label.bytes
+json_item label p units =
+    if accepts start units then Ok (item.Value (bound.Json units)) else fault kind.BadJson p label.bytes
 
 -- the address that a field's text stands for, or a fault
 abbrev pub address_item : Placed → ℕ → Option Addr → Given Item
@@ -374,7 +381,8 @@ with_one l i = record { items = with_item l.items i; taken = with_name l.taken i
 
 -- one item of a list read, its name taken if it has one
 abbrev pub item_step : Reader → Placed → ListKind → Listed → Value → Read Listed
-item_step read label k l v = read l.taken label (item_shape k) v >>= λ i. done (record { items = with_item l.items i; taken = with_name l.taken i })
+item_step read label k l v = read l.taken label (item_shape k) v >>= λ i.
+    done (record { items = with_item l.items i; taken = with_name l.taken i })
 
 -- two modules or more
 abbrev pub is_left_out : ListKind → List Value → Bool
@@ -444,9 +452,10 @@ shaped read c taken label (shape.Struct k) v = structured read c taken label k v
 -- what a value is read to, where so many values may stand in one another
 unfoldable pub value_item : ℕ → Context → List ℕ → Names → Placed → Shape → Value → Read Item
 value_item zero c open_ taken label x v = given (wrong label (place_of v))
-value_item (suc n) c open_ taken label x v = given (in_place c.file c.constants open_ v) >>= λ o. shaped (value_item n c o.0) c taken label x o.1
+value_item (suc n) c open_ taken label x v = given (in_place c.file c.constants open_ v) >>= λ o.
+    shaped (value_item n c o.0) c taken label x o.1
 
--- no more stand in one another: a configuration, its services, one of these, its Worker, the Worker's bindings, one of these,
--- its designator, and a name
+-- no more stand in one another: a configuration, its services, one of these, its Worker, the Worker's bindings, one of
+-- these, its designator, and a name
 abbrev pub most_levels : ℕ
 most_levels = 8

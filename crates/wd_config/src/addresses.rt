@@ -1,7 +1,8 @@
 ghost use Rattle.std.specs.Prelude.{◌≡◌, ◌↔◌, ℕ, Some, IsTrue, IfOk};
 ghost use Rattle.std.specs.Fmt.{decimal};
 ghost use Rattle.std.specs.Option.{MatchOption};
-ghost use Rattle.wd_config.specs.Addresses.{IsPort, IsNamedHost, IsDotted, IsSocketHost, IsNoSocket, IsSocket, FindsSocket, is_host_byte, IsHostName, IsNoExternal, IsExternal, FindsExternal};
+ghost use Rattle.wd_config.specs.Addresses.{IsPort, IsNamedHost, IsDotted, IsSocketHost, is_host_byte, IsHostName};
+ghost use Rattle.wd_config.specs.Addresses.{IsNoSocket, IsSocket, FindsSocket, IsNoExternal, IsExternal, FindsExternal};
 
 use crate::cut::split;
 use crate::numbers::number;

@@ -378,7 +378,7 @@ fn is_text(leaf: Leaf) -> bool
 }
 
 /// A text or bytes.
-#[tactic(auto, using(crate::proofs::Comes::comes_then, crate::proofs::Comes::stops_then, crate::proofs::Comes::gives_comes), unfolding(crate::specs::Values::leaf_item))]
+#[tactic(auto, using(crate::proofs::Comes::coming), unfolding(crate::specs::Values::leaf_item))]
 pub fn leaf_item<F: Files>(
     alloc: Global,
     scope: &Scope<'_>,

@@ -272,7 +272,7 @@ fn item<'a, F: Files>(
 
 /// A list, item by item.
 #[cycle(value)]
-#[tactic(auto, using(crate::proofs::Comes::gives_comes, crate::proofs::SoundLaws::items_none, crate::proofs::RoomLaws::list_each, crate::proofs::RoomLaws::list_few))]
+#[tactic(auto, using(crate::proofs::ListRules::lists))]
 fn listed<'a, F: Files>(
     levels: usize,
     alloc: Global,
