@@ -229,6 +229,7 @@ impl MemFiles {
         ensures fault { IsErrOf result Failed.Fault → IsTrue (read_fails self.old path.now) }
         ensures ok { OnOk result (read_fails self.old path.now ≡ false) }
         ensures after { self.new ≡ files_after_read result path.now self.old }
+        ensures later { self.old.faults.read ≤ self.new.faults.read }
     {
         match self.found(alloc, path.as_bytes()) {
             Ok(found) => {
@@ -249,6 +250,7 @@ impl MemFiles {
         ensures names { IfOk result (λ found. found ≡ names_at (stored self.old) path.now) }
         ensures fault { IsErrOf result Failed.Fault ↔ IsTrue (is_failing self.old.fail self.old.calls) }
         ensures after { self.new ≡ files_after_list result self.old }
+        ensures later { self.old.faults.list ≤ self.new.faults.list }
     {
         if is_failing(&self.fail, self.calls) {
             count_fault(&mut self.calls, &mut self.faults.list);
@@ -266,6 +268,7 @@ impl MemFiles {
         ensures err { OnErr result (self.new.files ≡ self.old.files) }
         ensures fault { IsErrOf result Failed.Fault ↔ IsTrue (is_failing self.old.fail self.old.calls) }
         ensures after { self.new ≡ files_after_write result self.new.files self.old }
+        ensures later { self.old.faults.write ≤ self.new.faults.write }
     {
         if is_failing(&self.fail, self.calls) {
             count_fault(&mut self.calls, &mut self.faults.write);

@@ -1,4 +1,4 @@
-ghost use Rattle.std.specs.Prelude.{◌≡◌, Some, IfOk, IsErrOf, IsTrue, ◌↔◌};
+ghost use Rattle.std.specs.Prelude.{◌≡◌, ◌≤◌, Some, IfOk, IsErrOf, IsTrue, ◌↔◌};
 ghost use Rattle.wd_ports.specs.Calls.{is_failing};
 ghost use Rattle.wd_ports.specs.MemPort.{IsMade, empty_plan, plan_at, planned_told};
 
@@ -56,6 +56,7 @@ impl MemMaker {
         ensures made { IfOk result (IsMade (plan_at self.old.plans seat)) }
         ensures fault { IsErrOf result Failed.Fault ↔ IsTrue (is_failing self.old.fail self.old.calls) }
         ensures after { self.new ≡ maker_after result self.old }
+        ensures later { self.old.faults ≤ self.new.faults }
     {
         if is_failing(&self.fail, self.calls) {
             count_fault(&mut self.calls, &mut self.faults);

@@ -160,6 +160,7 @@ impl MemPort {
         ensures fault { IsErrOf result Failed.Fault → IsTrue (read_fails self.old.files path.now) }
         ensures ok { OnOk result (read_fails self.old.files path.now ≡ false) }
         ensures after { self.new ≡ with_files (files_after_read result path.now self.old.files) self.old }
+        ensures later { self.old.files.faults.read ≤ self.new.files.faults.read }
     {
         self.files.read_file(alloc, path)
     }
@@ -169,6 +170,7 @@ impl MemPort {
         ensures names { IfOk result (λ found. found ≡ names_at (stored self.old.files) path.now) }
         ensures fault { IsErrOf result Failed.Fault ↔ IsTrue (is_failing self.old.files.fail self.old.files.calls) }
         ensures after { self.new ≡ with_files (files_after_list result self.old.files) self.old }
+        ensures later { self.old.files.faults.list ≤ self.new.files.faults.list }
     {
         self.files.list_folder(alloc, path)
     }
@@ -179,6 +181,7 @@ impl MemPort {
         ensures err { OnErr result (self.new.files.files ≡ self.old.files.files) }
         ensures fault { IsErrOf result Failed.Fault ↔ IsTrue (is_failing self.old.files.fail self.old.files.calls) }
         ensures after { self.new ≡ with_files (files_after_write result self.new.files.files self.old.files) self.old }
+        ensures later { self.old.files.faults.write ≤ self.new.files.faults.write }
     {
         self.files.write_file(alloc, path, bytes)
     }
@@ -495,11 +498,16 @@ impl Port for MemPort {
         let read = self.links[at].told.received.len();
         let got = read_source(&self.schedule, &self.peers, source, read, buf);
         match got {
-            Got::Bytes(count) => add_received(&mut self.links, at, &buf[..count])?,
-            Got::Later => {}
-            Got::End => set_ended(&mut self.links, at),
+            Got::Bytes(count) => {
+                add_received(&mut self.links, at, &buf[..count])?;
+                count_call(&mut self.calls);
+            }
+            Got::Later => count_call(&mut self.calls),
+            Got::End => {
+                set_ended(&mut self.links, at);
+                count_call(&mut self.calls);
+            }
         }
-        count_call(&mut self.calls);
         Ok(got)
     }
 

@@ -1,4 +1,4 @@
-ghost use Rattle.std.specs.Prelude.{◌≡◌, length, Some, IfOk, IsErrOf, IsTrue, ◌↔◌};
+ghost use Rattle.std.specs.Prelude.{◌≡◌, ◌≤◌, length, Some, IfOk, IsErrOf, IsTrue, ◌↔◌};
 ghost use Rattle.wd_ports.specs.Calls.{is_failing};
 
 use crate::calls::{count_call, count_fault, is_failing};
@@ -26,6 +26,7 @@ impl MemSink {
         ensures whole { IfOk result (λ k. k ≡ length bytes.now) }
         ensures fault { IsErrOf result Failed.Fault ↔ IsTrue (is_failing self.old.fail self.old.calls) }
         ensures after { self.new ≡ sink_after result bytes.now self.old }
+        ensures later { self.old.faults ≤ self.new.faults }
     {
         if is_failing(&self.fail, self.calls) {
             count_fault(&mut self.calls, &mut self.faults);

@@ -16,4 +16,4 @@ pub returns-clause-path : goal.returns-clause-path
 returns-clause-path c = IfOk-weaker c.make.result _ _ (λ p made. ap (λ f. f.failed_read) made.files) c.make.ensures.made
 
 pub returns-clause-blames : goal.returns-clause-blames
-returns-clause-blames c = rw c.make.ensures.after (counts_after c.args.self.now.faults c.make.result (omega arith))
+returns-clause-blames c = rw c.make.ensures.after (counts_after c.args.self.now.faults c.make.result (omega (arith, c.make.ensures.later, ap (λ m. m.faults) c.make.ensures.after)))

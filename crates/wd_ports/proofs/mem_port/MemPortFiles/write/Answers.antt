@@ -1,5 +1,6 @@
 use Rattle.std.proofs.Common.{ap, arith}
 use Rattle.wd_ports.specs.Faults.{WriteFile}
+use Rattle.wd_ports.specs.MemFiles.{files_after_write}
 use Rattle.wd_ports.specs.MemPort.{mem_told, mem_faults, mem_failed_read}
 use Rattle.wd_ports.proofs.CallCounts.{blames_after}
 use Rattle.wd_ports.proofs.MemLinks.{file_call_leaves, file_call_adds_none}
@@ -10,13 +11,13 @@ pub returns-clause-tells : goal.returns-clause-tells
 returns-clause-tells c = rw c.write_file.ensures.after (writes_told c.write_file.result c.args.path.now c.args.bytes.now (mem_told c.args.self.now) c.args.self.now.files.folders _ _ c.write_file.ensures.ok c.write_file.ensures.err)
 
 pub returns-clause-blames : goal.returns-clause-blames
-returns-clause-blames c = rw c.write_file.ensures.after (blames_after WriteFile (mem_faults c.args.self.now) c.write_file.result (omega arith))
+returns-clause-blames c = rw c.write_file.ensures.after (blames_after WriteFile (mem_faults c.args.self.now) c.write_file.result (omega (arith, c.write_file.ensures.later, ap (λ p. p.files.faults.write) c.write_file.ensures.after)))
 
 pub returns-clause-path : goal.returns-clause-path
 returns-clause-path c = ap mem_failed_read c.write_file.ensures.after
 
 pub returns-clause-leaves : goal.returns-clause-leaves
-returns-clause-leaves c = rw c.write_file.ensures.after (file_call_leaves _ c.args.self.now)
+returns-clause-leaves c = rw c.write_file.ensures.after (file_call_leaves (files_after_write c.write_file.result c.write_file.new.self.files.files c.args.self.now.files) c.args.self.now)
 
 pub returns-clause-memory : goal.returns-clause-memory
-returns-clause-memory c = λ e. rw c.write_file.ensures.after (file_call_adds_none _ c.args.self.now)
+returns-clause-memory c = λ e. rw c.write_file.ensures.after (file_call_adds_none (files_after_write c.write_file.result c.write_file.new.self.files.files c.args.self.now.files) c.args.self.now)

@@ -15,7 +15,7 @@ pub returns-then-is_failing-clause-unseen : goal.returns-then-is_failing-clause-
 returns-then-is_failing-clause-unseen c = unseen_called c.args.self.now c.set_gone.new.links.items c.count_read.new.calls c.count_read.ensures.calls (sources_lost _ _ _ c.set_gone.ensures)
 
 pub returns-in_ok-add_received-in-Bytes-clause-unseen : goal.returns-in_ok-add_received-in-Bytes-clause-unseen
-returns-in_ok-add_received-in-Bytes-clause-unseen c = unseen_called c.args.self.now c.add_received.new.links.items c.count_call.new.calls c.count_call.ensures (sources_changed _ _ _ (with_received _) c.in_ok-add_received-in-Bytes.ensures.ok)
+returns-in_ok-add_received-in-Bytes-clause-unseen c = unseen_called c.args.self.now c.add_received.new.links.items _ (cc) (sources_changed _ _ _ (with_received _) c.in_ok-add_received-in-Bytes.ensures.ok)
 
 pub returns-in-End-clause-unseen : goal.returns-in-End-clause-unseen
-returns-in-End-clause-unseen c = unseen_called c.args.self.now c.set_ended.new.links.items c.count_call.new.calls c.count_call.ensures (sources_changed _ _ _ with_end c.set_ended.ensures)
+returns-in-End-clause-unseen c = unseen_called c.args.self.now c.set_ended.new.links.items _ (cc) (sources_changed _ _ _ with_end c.set_ended.ensures)
