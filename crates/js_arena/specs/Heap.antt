@@ -19,7 +19,7 @@ use Rattle.js_arena.specs.declared.value.ArenaEnd.TheVariants.{Full, NoMemory}
 use Rattle.js_arena.specs.declared.value.OpEnd.{OpEnd}
 use Rattle.js_arena.specs.declared.value.OpEnd.TheVariants as op
 use Rattle.js_arena.specs.Props.{Properties, put_prop, put_units}
-use Rattle.js_arena.specs.Units.{units}
+use Rattle.js_arena.specs.Units.{units, all_units}
 
 -- the items but the last
 abbrev pub without_end : List Value → List Value
@@ -169,6 +169,11 @@ more_units None cell = units cell
 abbrev pub AddsCell : Cell → Heap → Heap → Result CellNo ArenaEnd → Type 0
 AddsCell cell old new result =
     Adds old (units cell) (λ no. (no.0 ≡ length old.cells) × (new ≡ with_cell cell old)) new result
+
+-- these cells behind the heap's own, all of them or none
+abbrev pub AddsCells : {A : Type 0} → List Cell → Heap → Heap → Result A ArenaEnd → Type 0
+AddsCells cells old new result =
+    let n = all_units cells in Adds old n (λ _. new ≡ with_cells cells n old) new result
 
 -- n new variables, the first under the next number
 abbrev pub AddsVariables : ℕ → Heap → Heap → Result CellNo ArenaEnd → Type 0

@@ -1,5 +1,6 @@
 -- What the cells of a heap take.
-use Rattle.std.specs.Prelude.{ℕ, ◌+◌, ◌*◌, length}
+use Rattle.std.specs.Prelude.{ℕ, ◌+◌, ◌*◌, List, length}
+use Rattle.std.specs.List.{sum_by}
 use Rattle.js_arena.specs.declared.value.Cell.{Cell}
 use Rattle.js_arena.specs.declared.value.Cell.TheVariants.{Text, Variable, Object, Array, Function, Activation, Error}
 use Rattle.js_arena.specs.declared.value.Cell.TheVariants.{Buffer}
@@ -15,3 +16,7 @@ units (Function n) = 8
 units Activation = 8
 units (Error kind msg) = 16
 units (Buffer bytes) = 8 + length bytes
+
+-- what these cells take together
+abbrev pub all_units : List Cell → ℕ
+all_units cells = sum_by units cells

@@ -4,8 +4,8 @@ ghost use Rattle.std.specs.Prelude.{Option, Some, None, option_map, IfOk, OnOk, 
 ghost use Rattle.std.specs.Option.{option_copied};
 ghost use Rattle.std.specs.List.{list_any};
 ghost use Rattle.js_arena.specs.Props.{put_prop, put_units};
-ghost use Rattle.js_arena.specs.Units.{units};
-ghost use Rattle.js_arena.specs.Heap.{Heap, Adds, AddsCell, AddsVariables, AddsProp, Replaces, cell_at, put_at};
+ghost use Rattle.js_arena.specs.Units.{units, all_units};
+ghost use Rattle.js_arena.specs.Heap.{Heap, Adds, AddsCell, AddsCells, AddsVariables, AddsProp, Replaces, cell_at, put_at};
 ghost use Rattle.js_arena.specs.Heap.{push_at, set_at, pop_at};
 ghost use Rattle.js_arena.specs.Heap.{with_value, with_item, with_item_at, without_last, without_end, last_of};
 ghost use Rattle.js_arena.specs.Heap.{same_kind, more_units};
@@ -72,6 +72,23 @@ fn room(total: u32, limit: u32, more: u128) -> Option<u32>
     } else {
         None
     }
+}
+
+/// The units that are taken once all cells of a list are, where they fit.
+fn room_for(mut cells: &[Cell], total: u32, limit: u32) -> Option<u32>
+    requires { total ≤ limit }
+    ensures some { IfSome result (λ t. (t ≡ total + all_units cells.entry.now) × (t ≤ limit)) }
+    ensures none { IsNone result → nat_le (total + all_units cells.entry.now) limit ≡ false }
+{
+    let mut taken = total;
+    while let [first, rest @ ..] = cells {
+        match room(taken, limit, units_of(first)) {
+            Some(more) => taken = more,
+            None => return None,
+        }
+        cells = rest;
+    }
+    Some(taken)
 }
 
 fn push_cell(cells: &mut Vec<Cell>, cell: Cell) -> Result<(), NoMemory>
@@ -286,6 +303,38 @@ impl Arena {
             Ok(()) => {
                 self.total = total;
                 Ok(no)
+            }
+            Err(_) => Err(ArenaEnd::NoMemory),
+        }
+    }
+
+    /// How many cells there are. The next one has this number.
+    pub fn count(&self) -> u32
+        ensures { result ≡ length self.now.cells }
+    {
+        self.cells.len() as u32
+    }
+
+    /// The units that may still be taken.
+    pub fn left(&self) -> u32
+        ensures { self.now.taken + result ≡ self.now.limit }
+    {
+        self.limit - self.total
+    }
+
+    /// New cells in a row, all of them or none, for the units of all.
+    #[tactic(auto, using(crate::proofs::Rows::cells_within))]
+    pub fn append(&mut self, cells: Vec<Cell>) -> Result<(), ArenaEnd>
+        ensures { AddsCells cells.items self.old self.new result }
+    {
+        let Some(total) = room_for(cells.as_slice(), self.total, self.limit) else {
+            return Err(ArenaEnd::Full);
+        };
+        let mut more = cells;
+        match self.cells.append(&mut more) {
+            Ok(()) => {
+                self.total = total;
+                Ok(())
             }
             Err(_) => Err(ArenaEnd::NoMemory),
         }
