@@ -74,5 +74,5 @@ fn first_samples(alloc: Global) -> Result<Vec<Sample>, NoMemory>
 pub fn hello_core(alloc: Global) -> Result<Core<Sample>, NoMemory> {
     let world = hello_world(alloc)?;
     let isolates = first_samples(alloc)?;
-    Core::new(alloc, world, Head::Whole, isolates)
+    Core::new(alloc, world, &Head::Whole, isolates)
 }
