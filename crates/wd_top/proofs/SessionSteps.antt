@@ -46,14 +46,30 @@ shut_link n change t = twice n change with_shut t
 pub reading_more : (service : List ℕ) (l : LinkState) (t : Talk) (rest b : List ℕ) → Reading service l t rest false []
     → Reading service (with_received b l) t (rest ++ b) false []
 reading_more service l t rest b r =
-    record { requests = r.requests; reads = all_more l.received r.requests rest b r.reads; closes = r.closes;
-    arrived = r.arrived; placed = r.placed; orderly = r.orderly; answers = r.answers; sent = r.sent }
+    record {
+      requests = r.requests;
+      reads = all_more l.received r.requests rest b r.reads;
+      closes = r.closes;
+      arrived = r.arrived;
+      placed = r.placed;
+      orderly = r.orderly;
+      answers = r.answers;
+      sent = r.sent;
+    }
 
 -- the end came
 pub reading_end : (service : List ℕ) (l : LinkState) (t : Talk) (rest : List ℕ) → Reading service l t rest false []
     → Reading service (with_end l) t rest false []
-reading_end service l t rest r = record { requests = r.requests; reads = r.reads; closes = r.closes;
-    arrived = r.arrived; placed = r.placed; orderly = r.orderly; answers = r.answers; sent = r.sent }
+reading_end service l t rest r = record {
+  requests = r.requests;
+  reads = r.reads;
+  closes = r.closes;
+  arrived = r.arrived;
+  placed = r.placed;
+  orderly = r.orderly;
+  answers = r.answers;
+  sent = r.sent;
+}
 
 -- a text more on the line
 line_snoc : (rs : Requests) (rows : List Row) (r : ReqData) (c : Bool) (row : Row) (p : Reply) → row.reply ≡ Some p
@@ -65,8 +81,8 @@ line_snoc (y ∷ ys) [] r c row p is e a = absurd (cc)
 line_snoc (y ∷ ys) (x ∷ xs) r c row p is e a =
     let tail : arrivals xs ≡ asked ys = cc in
     elim x.reply as (λ o. (is_some o && answered xs) ≡ true
-        → line (y ∷ (ys ++ (r, c) ∷ [])) (o ∷ replies (xs ++ row ∷ [])) ≡ line (y ∷ ys) (o ∷ replies xs)
-        ++ reply_text p (is_head r) c) [
+    → line (y ∷ (ys ++ (r, c) ∷ [])) (o ∷ replies (xs ++ row ∷ [])) ≡ line (y ∷ ys) (o ∷ replies xs)
+    ++ reply_text p (is_head r) c) [
       | None ↦ λ a. absurd (false≢true a)
       | Some p' ↦ λ a. ap (λ t. reply_text p' (is_head y.0) y.1 ++ t) (line_snoc ys xs r c row p is tail a)
           ∙ sym (append_assoc (reply_text p' (is_head y.0) y.1) _ _)
@@ -82,7 +98,7 @@ line_stop (y ∷ ys) [] r c row is e a = absurd (cc)
 line_stop (y ∷ ys) (x ∷ xs) r c row is e a =
     let tail : arrivals xs ≡ asked ys = cc in
     elim x.reply as (λ o. (is_some o && answered xs) ≡ true
-        → line (y ∷ (ys ++ (r, c) ∷ [])) (o ∷ replies (xs ++ row ∷ [])) ≡ line (y ∷ ys) (o ∷ replies xs)) [
+    → line (y ∷ (ys ++ (r, c) ∷ [])) (o ∷ replies (xs ++ row ∷ [])) ≡ line (y ∷ ys) (o ∷ replies xs)) [
       | None ↦ λ a. absurd (false≢true a)
       | Some p' ↦ λ a. ap (λ t. reply_text p' (is_head y.0) y.1 ++ t) (line_stop ys xs r c row is tail a)
     ] a
@@ -258,9 +274,27 @@ carries_refused service l t rest code k h x f = record {
 
 -- the link was shut
 pub carries_shut : (service : List ℕ) (l : LinkState) (t : Talk) → Carries service l t → Carries service (with_shut l) t
-carries_shut service l t x = record { requests = x.requests; rest = x.rest; reads = x.reads; arrived = x.arrived;
-    placed = x.placed; orderly = x.orderly; tail = x.tail; fault = x.fault; sent = x.sent }
+carries_shut service l t x = record {
+  requests = x.requests;
+  rest = x.rest;
+  reads = x.reads;
+  arrived = x.arrived;
+  placed = x.placed;
+  orderly = x.orderly;
+  tail = x.tail;
+  fault = x.fault;
+  sent = x.sent;
+}
 
 pub whole_shut : (service : List ℕ) (l : LinkState) (t : Talk) → IsWhole service l t → IsWhole service (with_shut l) t
-whole_shut service l t x = record { requests = x.requests; end = x.end; of = x.of; arrived = x.arrived;
-    placed = x.placed; orderly = x.orderly; answers = x.answers; over = x.over; sent = x.sent }
+whole_shut service l t x = record {
+  requests = x.requests;
+  end = x.end;
+  of = x.of;
+  arrived = x.arrived;
+  placed = x.placed;
+  orderly = x.orderly;
+  answers = x.answers;
+  over = x.over;
+  sent = x.sent;
+}

@@ -133,10 +133,10 @@ abbrev pub Replies : Seat → LinkNo → List ℕ → ReqData → Bool → StepE
     → List Entry → Type 0
 Replies seat n service r close e gone old new j j' =
     ((reply : Reply) × (result : Result (Unit {0}) Failed) × Answers seat n service r j j' (Ok (Some reply))
-        × Sends n (reply_text reply (is_head r) close) result old new × (e ≡ end_of result close)
-        × (IsErrOf result Fault → gone))
+    × Sends n (reply_text reply (is_head r) close) result old new × (e ≡ end_of result close)
+    × (IsErrOf result Fault → gone))
     ⊎ (Others seat n j j' × ((talk seat.0 n.0 j' ≡ talk seat.0 n.0 j) ⊎ Adds seat n service r None j j') × (new ≡ old)
-        × IsLeft e)
+    × IsLeft e)
 
 -- what is known of a link after a step
 abbrev pub After : StepEnd → List ℕ → LinkState → Talk → LinkRun → Type 0 → Type 0
