@@ -78,7 +78,7 @@ run_push seat m world es e s r is b next here = record {
 -- THE ENTRIES OF A REQUEST
 
 abbrev pub arrive_entry : Seat → Req → List ℕ → LinkNo → ReqData → Entry
-arrive_entry seat q service link request = Arrive seat seat q service (Outside link) 1000 request
+arrive_entry seat q service link request = Arrive seat q service (Outside link) 1000 request
 
 -- the seat is itself
 here_is : (seat : Seat) (b : Bool) → (nat_eq seat.0 seat.0 && b) ≡ b

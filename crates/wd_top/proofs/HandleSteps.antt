@@ -191,9 +191,9 @@ handles_request seat n s run i r c e t new j j' gone is (inr (others, asked, sam
 }
 
 refused_after : (s : List ℕ) (l : LinkState) (t : Talk) (run : LinkRun) (rest : List ℕ) (code k : ℕ)
-    (w : Result (Unit {0}) Failed) (gone : Type 0) → k ≤ length (tail_text (Some code))
-    → OnOk w (k ≡ length (tail_text (Some code))) → (IsErrOf w Fault → gone) → Reading s l t rest false []
-    → IsFault rest code → After (end_of w true) s (with_sent (take k (tail_text (Some code))) l) t run gone
+    (w : Result (Unit {0}) Failed) (gone : Type 0) → k ≤ length (tail_text rest (Some code))
+    → OnOk w (k ≡ length (tail_text rest (Some code))) → (IsErrOf w Fault → gone) → Reading s l t rest false []
+    → IsFault rest code → After (end_of w true) s (with_sent (take k (tail_text rest (Some code))) l) t run gone
 refused_after s l t run rest code k (Ok x) gone h all lost r f =
     (carries_refused s l t rest code k h r f, λ _. whole_refused s l t rest code k all r f)
 refused_after s l t run rest code k (Err Fault) gone h all lost r f =
@@ -203,9 +203,9 @@ refused_after s l t run rest code k (Err NoMemory) gone h all lost r f = carries
 pub handles_bad : (seat : Seat) (n : LinkNo) (s : List ℕ) (run : LinkRun) (i : Heard) (code : ℕ)
     (w : Result (Unit {0}) Failed)
     (t new : Told) (j : List Entry) (gone : Type 0) → i ≡ heard.Fed (fed.Bad code) → (IsErrOf w Fault → gone)
-    → Sends n (tail_text (Some code)) w t new → Handles seat n s run run i (end_of w true) t new j j gone
+    → Sends n (tail_text run.conn.queue (Some code)) w t new → Handles seat n s run run i (end_of w true) t new j j gone
 handles_bad seat n s run i code w t new j gone is lost x = record {
-  change = with_sent (take x.count (tail_text (Some code)));
+  change = with_sent (take x.count (tail_text run.conn.queue (Some code)));
   tells = x.tells ∙ sent_link n _ t;
   stands = λ l. (refl, refl);
   same = (refl, refl);
@@ -213,5 +213,5 @@ handles_bad seat n s run i code w t new j gone is lost x = record {
   after = λ l k.
       let h : Known (heard.Fed (fed.Bad code)) s l (talk seat.0 n.0 j) run =
       subst (λ y. Known y s l (talk seat.0 n.0 j) run) is k in
-      refused_after s l (talk seat.0 n.0 j) run h.0 code x.count w gone x.within x.whole lost h.1 h.2;
+      refused_after s l (talk seat.0 n.0 j) run run.conn.queue code x.count w gone x.within x.whole lost h.0 h.1;
 }

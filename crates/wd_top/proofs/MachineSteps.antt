@@ -523,7 +523,7 @@ rests_turned {I = I} m s n seat q service link request w h e found = subst (λ t
         (λ b. (given_back b q.0 (taken_by q (turn_of m seat q service link request w).isolate []
         (waits_too (record { req = q; wake = Start request }) f))).waiters ≡ []) [ true ↦ refl | false ↦ refl ]
 
-    alone : filter (λ x. not (x.seat.0 == seat.0)) (record { seat = seat; req = q } ∷ []) ≡ []
+    alone : filter (λ (x : Run). not (x.seat.0 == seat.0)) (record { seat = seat; req = q } ∷ []) ≡ []
     alone = rw (same_number seat.0) refl
 
     rests : Rests (turned_with s2 seat r waiting p) q.0
@@ -531,7 +531,7 @@ rests_turned {I = I} m s n seat q service link request w h e found = subst (λ t
       rows = subst (λ x. RowsFrom 0 x) (sym rows)
           (rows_push 0 s.requests (has_turned waiting p r) h.rows (omega (arith, e, h.count)));
       count = ap length rows ∙ length-append s.requests _ ∙ ap (λ k. k + 1) h.count ∙ sym e;
-      running = ap (λ rs. filter (λ x. not (x.seat.0 == seat.0)) (rs ++ record { seat = seat; req = q } ∷ [])) h.running
+      running = ap (λ rs. filter (λ (x : Run). not (x.seat.0 == seat.0)) (rs ++ record { seat = seat; req = q } ∷ [])) h.running
           ∙ alone;
       due = h.due;
       idle = subst AreIdle (sym (ap (change (is_worker service) (given_back (ends r waiting p.out) q.0))

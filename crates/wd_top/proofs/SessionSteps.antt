@@ -19,6 +19,7 @@ use Rattle.wd_top.specs.Text.{line}
 use Rattle.http_in.proofs.StreamLaws.{all_more, all_snoc, closing_snoc}
 use Rattle.wd_top.specs.Talk.{Row, Talk, answered, add_row}
 use Rattle.wd_top.specs.Session.{is_head, tail_text, asked, arrivals, replies, AreAt, Carries, IsWhole}
+use Rattle.wd_top.specs.Session.{is_line_end, behind_lines}
 use Rattle.wd_top.specs.Steps.{Reading, Asks}
 
 -- what a port tells: one link is changed
@@ -241,8 +242,8 @@ whole_ended service l t rest x u e = record {
 
 -- the bytes are no request
 pub whole_refused : (service : List ℕ) (l : LinkState) (t : Talk) (rest : List ℕ) (code k : ℕ)
-    → k ≡ length (tail_text (Some code)) → Reading service l t rest false [] → IsFault rest code
-    → IsWhole service (with_sent (take k (tail_text (Some code))) l) t
+    → k ≡ length (tail_text rest (Some code)) → Reading service l t rest false [] → IsFault rest code
+    → IsWhole service (with_sent (take k (tail_text rest (Some code))) l) t
 whole_refused service l t rest code k e x f = record {
   requests = x.requests;
   end = Some code;
@@ -252,12 +253,12 @@ whole_refused service l t rest code k e x f = record {
   orderly = x.orderly;
   answers = x.answers;
   over = inr (inr refl);
-  sent = ap₂ (λ a b. a ++ b) (sym (append-nil l.sent) ∙ sym x.sent) (take_all k (tail_text (Some code)) (omega arith));
+  sent = ap₂ (λ a b. a ++ b) (sym (append-nil l.sent) ∙ sym x.sent) (take_all k (tail_text rest (Some code)) (omega arith));
 }
 
 pub carries_refused : (service : List ℕ) (l : LinkState) (t : Talk) (rest : List ℕ) (code k : ℕ)
-    → k ≤ length (tail_text (Some code)) → Reading service l t rest false [] → IsFault rest code
-    → Carries service (with_sent (take k (tail_text (Some code))) l) t
+    → k ≤ length (tail_text rest (Some code)) → Reading service l t rest false [] → IsFault rest code
+    → Carries service (with_sent (take k (tail_text rest (Some code))) l) t
 carries_refused service l t rest code k h x f = record {
   requests = x.requests;
   rest = rest;
@@ -267,8 +268,8 @@ carries_refused service l t rest code k h x f = record {
   orderly = x.orderly;
   tail = Some code;
   fault = (x.answers, x.closes, f);
-  sent = front l.sent (tail_text (Some code)) k h
-      ∙ ap (λ s. take (length (l.sent ++ take k (tail_text (Some code)))) (s ++ tail_text (Some code)))
+  sent = front l.sent (tail_text rest (Some code)) k h
+      ∙ ap (λ s. take (length (l.sent ++ take k (tail_text rest (Some code)))) (s ++ tail_text rest (Some code)))
       (sym (append-nil l.sent) ∙ sym x.sent);
 }
 
@@ -298,3 +299,31 @@ whole_shut service l t x = record {
   over = x.over;
   sent = x.sent;
 }
+
+-- ---- the empty lines before a request line
+
+-- one more line end is passed over
+pub line_passed : (bytes : List ℕ) (at byte : ℕ) → at < length bytes → byte ≡ get_or bytes at byte
+    → is_line_end byte ≡ true → behind_lines (drop at bytes) ≡ behind_lines (drop (at + 1) bytes)
+unfolding behind_lines
+line_passed [] at byte h is ends = absurd (omega (arith, h))
+line_passed (b ∷ bytes) zero byte h is ends = rw (ap is_line_end (sym is) ∙ ends) refl
+line_passed (b ∷ bytes) (suc at) byte h is ends =
+    let next : suc at + 1 ≡ suc (at + 1) = omega arith in
+    line_passed bytes at byte (omega (arith, h)) is ends ∙ ap (λ k. behind_lines (drop k (b ∷ bytes))) (sym next)
+
+-- here no further line end stands
+pub line_begun : (bytes : List ℕ) (at byte : ℕ) → at < length bytes → byte ≡ get_or bytes at byte
+    → is_line_end byte ≡ false → behind_lines (drop at bytes) ≡ drop at bytes
+unfolding behind_lines
+line_begun [] at byte h is ends = absurd (omega (arith, h))
+line_begun (b ∷ bytes) zero byte h is ends = rw (ap is_line_end (sym is) ∙ ends) refl
+line_begun (b ∷ bytes) (suc at) byte h is ends = line_begun bytes at byte (omega (arith, h)) is ends
+
+-- behind all bytes nothing stands
+pub lines_only : (bytes : List ℕ) (at : ℕ) → length bytes ≤ at → behind_lines (drop at bytes) ≡ drop at bytes
+unfolding behind_lines
+lines_only [] zero h = refl
+lines_only [] (suc at) h = refl
+lines_only (b ∷ bytes) zero h = absurd (omega (arith, h))
+lines_only (b ∷ bytes) (suc at) h = lines_only bytes at (omega (arith, h))

@@ -86,8 +86,8 @@ abbrev pub Known : Heard → List ℕ → LinkState → Talk → LinkRun → Typ
 Known (heard.Fed fed.Later) service link t run = Reading service link t run.conn.queue false []
     × (run.conn.phase ≡ phase.Open) × IsUnfinished run.conn.queue
 Known (heard.Fed (fed.Request r close)) service link t run = Asks service link t r close run
-Known (heard.Fed (fed.Bad code)) service link t run = (rest : List ℕ) × Reading service link t rest false []
-    × IsFault rest code
+Known (heard.Fed (fed.Bad code)) service link t run = Reading service link t run.conn.queue false []
+    × IsFault run.conn.queue code
 Known heard.Nothing service link t run = Opened service link t run
 Known heard.End service link t run = (rest : List ℕ) × Reading service link t rest false [] × IsUnfinished rest
     × (link.ended ≡ true)

@@ -102,6 +102,19 @@ const TOO_LARGE: &[u8] =
 const BAD: &[u8] = b"HTTP/1.1 400 Bad Request\r\ncontent-type: text/plain;charset=UTF-8\r\n\
     content-length: 11\r\nconnection: close\r\n\r\nBad Request";
 
+const TOO_LARGE_HEAD: &[u8] =
+    b"HTTP/1.1 413 Payload Too Large\r\ncontent-type: text/plain;charset=UTF-8\r\n\
+    content-length: 17\r\nconnection: close\r\n\r\n";
+
+const BAD_HEAD: &[u8] = b"HTTP/1.1 400 Bad Request\r\ncontent-type: text/plain;charset=UTF-8\r\n\
+    content-length: 11\r\nconnection: close\r\n\r\n";
+
+/// An empty line may stand before a request.
+const HEAD_WITHOUT_HOST: &[u8] = b"\r\nHEAD / HTTP/1.1\r\n\r\n";
+
+const HEAD_LARGE: &[u8] =
+    b"HEAD / HTTP/1.1\r\nHost: localhost:8080\r\nContent-Length: 1048577\r\n\r\n";
+
 const PIPELINED: &[u8] =
     b"GET / HTTP/1.1\r\nHost: localhost:8080\r\n\r\nGET /a HTTP/1.1\r\nHost: b\r\n\r\n";
 
@@ -398,7 +411,9 @@ fn a_link_carries_the_replies_of_its_requests(rt: HostRuntime) -> Result<(), Fai
 
 #[test]
 fn requests_of_each_kind_are_served(rt: HostRuntime) -> Result<(), Fail> {
-    let cases: [(&[&[u8]], &[&[u8]], usize); 7] = [
+    let cases: [(&[&[u8]], &[&[u8]], usize); 9] = [
+        (&[HEAD_WITHOUT_HOST, GET], &[BAD_HEAD], 0),
+        (&[GET, HEAD_LARGE], &[REPLY, TOO_LARGE_HEAD], 3),
         (&[CURL, CURL], &[REPLY, REPLY], 6),
         (&[COUNTED, GET], &[REPLY, REPLY], 6),
         (&[CHUNKED, GET], &[REPLY, REPLY], 6),
