@@ -1,5 +1,5 @@
 -- What `hear` and `handle` leave, exit by exit.
-use Rattle.std.proofs.Common.{◌≡◌, ℕ, ◌≤◌, List, [], length, take, refl, sym, ◌∙◌, subst, Bool, true, false, Some}
+use Rattle.std.proofs.Common.{arith, ◌≡◌, ℕ, ◌≤◌, List, [], length, take, refl, sym, ◌∙◌, subst, Bool, true, false, Some}
 use Rattle.std.proofs.Common.{Result, Ok, Err, inl, inr, append-nil, IsErrOf, OnOk}
 use Rattle.std.proofs.lemmas.Bool.{false≢true}
 use Rattle.wd_base.specs.declared.ids.LinkNo.{LinkNo}
@@ -10,6 +10,7 @@ use Rattle.wd_ports.specs.declared.told.Failed.{Failed}
 use Rattle.wd_ports.specs.declared.told.Failed.TheVariants.{Fault, NoMemory}
 use Rattle.wd_ports.specs.Told.{Told, with_received, with_sent, with_end, received_on, ended_on}
 use Rattle.wd_ports.specs.Send.{Sends}
+use Rattle.wd_ports.proofs.OneLink.{sent_nothing}
 use Rattle.wd_machine.specs.declared.journal.Entry.{Entry}
 use Rattle.http_in.specs.declared.conn.Phase.TheVariants as phase
 use Rattle.http_in.specs.declared.conn.Fed.TheVariants as fed
@@ -74,6 +75,10 @@ hears_end n run t new e r = record {
     refl,
   );
 }
+
+-- nothing was sent for want of memory
+pub none_sent : (n : LinkNo) (bytes : List ℕ) (t : Told) → Sends n bytes (Err NoMemory) t t
+none_sent n bytes t = record { count = 0; within = omega arith; whole = tt; tells = sym (sent_nothing n t) }
 
 -- neither the port nor the journal changed
 unmoved : (seat : Seat) (n : LinkNo) (s : List ℕ) (run run' : LinkRun) (i : Heard) (e : StepEnd) (t : Told)

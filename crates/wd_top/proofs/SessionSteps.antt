@@ -253,7 +253,8 @@ whole_refused service l t rest code k e x f = record {
   orderly = x.orderly;
   answers = x.answers;
   over = inr (inr refl);
-  sent = ap₂ (λ a b. a ++ b) (sym (append-nil l.sent) ∙ sym x.sent) (take_all k (tail_text rest (Some code)) (omega arith));
+  sent = ap₂ (λ a b. a ++ b) (sym (append-nil l.sent) ∙ sym x.sent)
+      (take_all k (tail_text rest (Some code)) (omega arith));
 }
 
 pub carries_refused : (service : List ℕ) (l : LinkState) (t : Talk) (rest : List ℕ) (code k : ℕ)
