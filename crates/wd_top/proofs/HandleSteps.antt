@@ -1,6 +1,6 @@
 -- What `hear` and `handle` leave, exit by exit.
-use Rattle.std.proofs.Common.{arith, ◌≡◌, ℕ, ◌≤◌, List, [], length, take, refl, sym, ◌∙◌, subst, Bool, true, false, Some}
-use Rattle.std.proofs.Common.{Result, Ok, Err, inl, inr, append-nil, IsErrOf, OnOk}
+use Rattle.std.proofs.Common.{◌≡◌, ℕ, ◌≤◌, List, [], length, take, refl, sym, ◌∙◌, subst, Bool, true, false, Some}
+use Rattle.std.proofs.Common.{arith, Result, Ok, Err, inl, inr, append-nil, IsErrOf, OnOk}
 use Rattle.std.proofs.lemmas.Bool.{false≢true}
 use Rattle.wd_base.specs.declared.ids.LinkNo.{LinkNo}
 use Rattle.wd_base.specs.declared.ids.Seat.{Seat}

@@ -1,6 +1,7 @@
 -- What is known of a link goes on from step to step.
 use Rattle.std.proofs.Common.{◌≡◌, ℕ, ◌≤◌, List, [], ◌∷◌, ◌++◌, length, take, refl, ap, ap₂, sym, ◌∙◌, subst, arith}
 use Rattle.std.proofs.Common.{Bool, true, false, ◌&&◌, Some, None, inl, inr, append_assoc, append-nil, length-append}
+use Rattle.std.proofs.Common.{◌+◌, ◌<◌, drop, get_or, zero, suc}
 use Rattle.std.proofs.lemmas.List.{map-append, take_all, length-take-le}
 use Rattle.std.proofs.Math.Seq.{take-append-add, take-length}
 use Rattle.std.proofs.lemmas.Bool.{false≢true}
