@@ -15,6 +15,7 @@ use Rattle.wd_command.specs.Notice.{status_of as notice_status, text_of as notic
 use Rattle.wd_machine.specs.declared.journal.Entry.{Entry}
 use Rattle.wd_machine.specs.declared.journal.Head.TheVariants.{Whole}
 use Rattle.wd_machine.specs.declared.journal.Journal.{Journal}
+use Rattle.wd_machine.specs.Meaning.{Meaning}
 use Rattle.wd_machine.specs.Runs.{legal}
 use Rattle.wd_plan.specs.declared.ready.PlanEnd.{PlanEnd}
 use Rattle.wd_plan.specs.declared.ready.PlanEnd.TheVariants as end
@@ -25,6 +26,7 @@ use Rattle.wd_plan.specs.Constant.{constant_means}
 use Rattle.wd_plan.specs.Plan.{Plan, Refuses, Starts, Plans, IsReadPath}
 use Rattle.wd_plan.specs.Prepare.{Heeds, OnEndFault, OnRefusedFault, plan_of_end, plan_of_refusal}
 use Rattle.wd_plan.proofs.PlanLaws.{no_command, plans_one}
+use Rattle.wd_plan.proofs.SomePlan.{some_plan}
 use Rattle.wd_ports.specs.declared.told.Faults.{Faults}
 use Rattle.wd_ports.specs.Faults.{Rose}
 use Rattle.wd_ports.specs.Sink.{with_bytes}
@@ -57,13 +59,14 @@ pub no_numbers : (entries : List Entry) → entries ≡ [] → IsNumbered entrie
 unfolding IsNumbered
 no_numbers entries e = subst (λ es. NumberedFrom 0 es) (sym e) tt
 
--- no request of no entries is left
-pub nothing_over : (world : Config) (entries : List Entry) → entries ≡ [] → IsOver constant_means world entries
-nothing_over world entries e = subst (λ es. IsOver constant_means world es) (sym e) (record {
+-- after no entries nothing is left to do
+pub nothing_over : {I : Type 0} (m : Meaning I) (world : Config) (entries : List Entry) → entries ≡ []
+    → IsOver m world entries
+nothing_over m world entries e = subst (λ es. IsOver m world es) (sym e) (record {
   ended = tt;
   running = refl;
   due = refl;
-  idle = idle_first constant_means world.services world.services;
+  idle = idle_first m world.services world.services;
 })
 
 -- the port that is handed out could not listen
@@ -74,7 +77,7 @@ pub listening_failed : {P : Type 0} (seat : Seat) (told : P → Told) (gone : P 
 listening_failed seat told gone faults [] entries world o address is one at = absurd (omega (arith, one))
 listening_failed seat told gone faults (p ∷ ports) entries world o address is one at =
     let here : AtPorts seat told gone faults (p ∷ ports) entries (outcome.NoListen address) world =
-        subst (λ x. AtPorts seat told gone faults (p ∷ ports) entries x world) is at in
+    subst (λ x. AtPorts seat told gone faults (p ∷ ports) entries x world) is at in
     inl ((here 0 p (omega arith)).outcome.0)
 
 session_caused : (seat : Seat) (call : Call) (world : Config) (o : Outcome) → IsSessionEnd seat o
@@ -159,36 +162,43 @@ pub checked_caused : (words : List (List ℕ)) (files : Option Stored) (rr mr lf
     (o : Outcome) → Plans words files (Starts v world) → v ≡ verb.Check
     → o ≡ outcome.Checked (length world.services) (length world.sockets)
     → IsCaused (call_by words files rr mr lf) o
-checked_caused words files rr mr lf v world o plan check is =
-    (world, subst (Caused (call_by words files rr mr lf) world) (sym is)
-        (subst (λ x. Plans words files (Starts x world)) check plan, refl, refl))
+checked_caused words files rr mr lf v world o plan check is = (
+  world,
+  subst (Caused (call_by words files rr mr lf) world) (sym is)
+      (subst (λ x. Plans words files (Starts x world)) check plan, refl, refl),
+)
 
--- an outcome without a session
+-- an outcome without a session leaves nothing
+pub early_ran : (seat : Seat) (world : Config) (o : Outcome) (journal : Journal) (ports : ℕ) (at_ports : Type 0)
+    → IsEarly o → journal ≡ record { head = Whole; entries = [] } → ports ≡ 0 → at_ports
+    → Ran seat world o journal ports at_ports
+early_ran seat world o journal ports at_ports early empty no_ports at =
+    let entries : journal.entries ≡ [] = ap (λ j. j.entries) empty in
+    record {
+      whole = ap (λ j. j.head) empty;
+      run = subst (λ j. legal constant_means world j ≡ true) (sym empty) refl;
+      numbered = no_numbers journal.entries entries;
+      of_seat = no_entries seat journal.entries entries;
+      over = λ is. nothing_over constant_means world journal.entries entries;
+      few = omega (arith, no_ports);
+      one = λ h. absurd (early_no_port world o early h);
+      idle = λ none. no_ports;
+      unheard = λ none. entries;
+      unused = λ h. entries;
+      at = at;
+    }
+
 pub early_comes : (seat : Seat) (words : List (List ℕ)) (files : Option Stored) (rr mr mr' lf lf' : Type 0)
     (o : Outcome) (journal : Journal) (ports : ℕ) (at_ports : Config → Type 0) → IsEarly o
     → IsCaused (call_by words files rr mr lf) o → journal ≡ record { head = Whole; entries = [] } → ports ≡ 0
     → ((world : Config) → at_ports world)
     → Comes seat (call_by words files rr mr' lf') o journal ports at_ports
-early_comes seat words files rr mr mr' lf lf' o journal ports at_ports early (world, caused) empty no_ports at =
-    let entries : journal.entries ≡ [] = ap (λ j. j.entries) empty in
-    record {
-      world = world;
-      caused = early_lift words files rr mr mr' lf lf' world o early caused;
-      early = λ e. inl (entries, no_ports);
-      ran = record {
-        whole = ap (λ j. j.head) empty;
-        run = subst (λ j. legal constant_means world j ≡ true) (sym empty) refl;
-        numbered = no_numbers journal.entries entries;
-        of_seat = no_entries seat journal.entries entries;
-        over = λ is. nothing_over world journal.entries entries;
-        few = omega (arith, no_ports);
-        one = λ h. absurd (early_no_port world o early h);
-        idle = λ none. no_ports;
-        unheard = λ none. entries;
-        unused = λ h. entries;
-        at = at world;
-      };
-    }
+early_comes seat words files rr mr mr' lf lf' o journal ports at_ports early (world, caused) empty no_ports at = record {
+  world = world;
+  caused = early_lift words files rr mr mr' lf lf' world o early caused;
+  early = λ e. inl (ap (λ j. j.entries) empty, no_ports);
+  ran = early_ran seat world o journal ports (at_ports world) early empty no_ports (at world);
+}
 
 -- the outcome of a session
 pub session_comes : (seat : Seat) (call : Call) (world : Config) (o : Outcome) (journal : Journal) (ports : ℕ)
@@ -215,7 +225,7 @@ Else call sink_rose status = ((status ≡ 5) × call.read_failed) ⊎ (((status 
 
 by_plan : (call : Call) (s : Stored) (sr : Type 0) (plan asked : Plan) (status : ℕ) → call.files ≡ Some s
     → Asks call asked → Asks call plan → status_for call plan status → status_for call asked status
-        ⊎ Else call sr status
+    ⊎ Else call sr status
 by_plan call s sr plan asked status told asks is h =
     let told_plan : Plans call.words (Some s) plan = subst (λ f. Plans call.words f plan) told is in
     let told_asked : Plans call.words (Some s) asked = subst (λ f. Plans call.words f asked) told asks in
@@ -269,8 +279,10 @@ pub status_is : (call : Call) (held held' : Option (List ℕ)) (count count' sta
 status_is call held held' count count' status o caused reports =
     elim call.files as (λ f. call.files ≡ f → IfSome f (λ _. IsStatus call (Rose count count') status)) [
       | None ↦ λ told. tt
-      | Some s ↦ λ told. λ asked asks.
-          by_report call s held held' count count' status o caused.0 asked told caused.1 asks reports
+      | Some s ↦ λ told.
+          let plan = some_plan call.words s in
+          let asks : Asks call plan.0 = subst (λ f. Plans call.words f plan.0) (sym told) plan.1 in
+          (plan.0, asks, by_report call s held held' count count' status o caused.0 plan.0 told caused.1 asks reports)
     ] refl
 
 -- ---- notices
