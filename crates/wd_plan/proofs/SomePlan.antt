@@ -14,6 +14,8 @@ use Rattle.wd_base.specs.declared.config.Config.{Config}
 use Rattle.wd_base.specs.declared.config.Service.{Service}
 use Rattle.wd_base.specs.declared.config.WorkerDef.{WorkerDef}
 use Rattle.wd_base.specs.Text.{utf16_of}
+use Rattle.wd_command.specs.declared.command.Verb.{Verb}
+use Rattle.wd_command.specs.Command.{Asked, Wish, runs, shows, wish}
 use Rattle.wd_config.specs.declared.faults.ConfigKind.TheVariants as kind
 use Rattle.wd_config.specs.Answer.{Answers}
 use Rattle.wd_config.specs.Configured.{configured}
@@ -22,15 +24,13 @@ use Rattle.wd_config.proofs.ToldLaws.{answer_told}
 use Rattle.wd_graph.specs.declared.linking.GraphFault.{GraphFault}
 use Rattle.wd_graph.specs.Links.{first_unknown, linked}
 use Rattle.wd_graph.specs.Names.{worker_in}
-use Rattle.wd_plan.specs.declared.command.Verb.{Verb}
 use Rattle.wd_plan.specs.declared.reason.Reason.TheVariants.{Faulty, OtherForm}
 use Rattle.wd_plan.specs.declared.reason.RefusedScript.{RefusedScript}
 use Rattle.wd_plan.specs.declared.refusal.Refusal.TheVariants as refusal
 use Rattle.wd_plan.specs.declared.script.Verdict.{Verdict}
 use Rattle.wd_plan.specs.declared.script.Verdict.TheVariants as verdict
-use Rattle.wd_plan.specs.Command.{Asked, command}
 use Rattle.wd_plan.specs.Folder.{folder}
-use Rattle.wd_plan.specs.Plan.{Plan, Refuses, Plans, AtAnswer, AtCommand, AtConfig, AtKinds, AtNames, AtScripts}
+use Rattle.wd_plan.specs.Plan.{Plan, Refuses, Plans, AtAnswer, AtConfig, AtKinds, AtNames, AtScripts, AtWish}
 use Rattle.wd_plan.specs.Plan.{at_script, may_go, other_kind}
 use Rattle.wd_plan.specs.Script.{Comes, answer_for}
 use Rattle.wd_plan.specs.Starts.{FirstRefused, IsPassed, IsRefusedFor, are_plain, refused}
@@ -121,10 +121,10 @@ some_config s asked (Some bytes) e =
     let at = some_answer asked.verb r.answer told in
     (at.0, (Some bytes, e, (r, reading.1, r.answer, says_itself r.answer, at.1)))
 
-some_command : (s : Stored) (asked : Option Asked) → (plan : Plan) × AtCommand (Some s) asked plan
-some_command s None = (Refuses refusal.CommandLine, refl)
-some_command s (Some asked) = some_config s asked (file_at s asked.config) refl
+some_wish : (s : Stored) (asks : Wish) → (plan : Plan) × AtWish (Some s) asks plan
+some_wish s (shows notice) = (Refuses (refusal.NoCommand notice), refl)
+some_wish s (runs asked) = some_config s asked (file_at s asked.config) refl
 
 pub some_plan : (words : List (List ℕ)) (s : Stored) → (plan : Plan) × Plans words (Some s) plan
 unfolding Plans
-some_plan words s = some_command s (command words)
+some_plan words s = some_wish s (wish words)
