@@ -86,3 +86,8 @@ run_on seat seats = run_of (running_in (seat_at seat seats))
 abbrev pub is_live_on : ℕ → Option RequestState → Bool
 is_live_on seat None = false
 is_live_on seat (Some r) = not r.ended && (r.seat.0 == seat)
+
+-- the request is there and has ended
+abbrev pub has_ended : Option RequestState → Bool
+has_ended None = false
+has_ended (Some r) = r.ended

@@ -46,6 +46,17 @@ new_objects (Done op result) = []
 new_objects (Cross job) = []
 new_objects Dead = []
 
+-- the turn left nothing for others to do: no operation, no job, no object of another request, and the heap is kept
+pub record IsAlone (out : Out) : Type 0 where
+  pub ops : out.ops ≡ []
+  pub cross : out.cross ≡ []
+  pub released : out.released ≡ []
+  pub condemned : out.condemned ≡ false
+
+-- no turn leaves anything for others to do
+abbrev pub WorksAlone : {S : Type 0} → Meaning S → Type 0
+WorksAlone {S} m = (s : S) (t : TurnIn) → IsAlone (m.turn s t).out
+
 -- what such an isolate is: its first one, its Worker, its generation, itself in another generation, and its answer with
 -- the steps of it
 pub record Quiet (S : Type 0) : Type 0 where
@@ -317,3 +328,20 @@ quiet_lawful q is = record {
   links = λ s t reached. links_kept q s t (is_over q s t);
   reads_no_link = λ s t reached. unread q s t (is_over q s t);
 }
+
+-- what a quiet turn did leaves nothing for others to do
+alone_out : (r : Reply) (n : ℕ) (w : Wake) → IsAlone (quiet_out r n w)
+alone_out r n (Start request) = record { ops = refl; cross = refl; released = refl; condemned = refl }
+alone_out r n (Done op result) = record { ops = refl; cross = refl; released = refl; condemned = refl }
+alone_out r n (Cross job) = record { ops = refl; cross = refl; released = refl; condemned = refl }
+alone_out r n Dead = record { ops = refl; cross = refl; released = refl; condemned = refl }
+
+-- nor does it where the generation is over
+alone_by : {S : Type 0} (q : Quiet S) (s : S) (t : TurnIn) (b : Bool)
+    → IsAlone (if b then dead_turn s t else live_turn q s t).out
+alone_by q s t true = record { ops = refl; cross = refl; released = refl; condemned = refl }
+alone_by q s t false = alone_out (q.reply s) q.steps t.wake
+
+-- a quiet isolate leaves nothing for others to do
+pub quiet_alone : {S : Type 0} (q : Quiet S) → WorksAlone (quiet_means q)
+quiet_alone q s t = alone_by q s t (is_over q s t)

@@ -5,6 +5,7 @@ ghost use Rattle.wd_graph.specs.Names.{worker_in};
 ghost use Rattle.wd_machine.specs.Duties.{owes, children_if};
 ghost use Rattle.wd_machine.specs.Ends.{waits_in};
 ghost use Rattle.wd_machine.specs.Found.{is_request, is_seat, is_worker, request_of, waiters_at, seat_at, running_in};
+ghost use Rattle.wd_machine.specs.Found.{has_ended, worker_of};
 ghost use Rattle.wd_machine.specs.Keyed.{change};
 ghost use Rattle.wd_machine.specs.Places.{place_for};
 ghost use Rattle.wd_machine.specs.Rules.{broken, broken_duty, broken_entry, broken_turn, broken_running, begin_broken};
@@ -82,6 +83,23 @@ impl<I> Machine<I> {
     {
         let row = request_named(self.requests.as_slice(), req);
         place_for(self.workers.as_slice(), row)
+    }
+
+    /// There is a Worker of this name.
+    pub fn has_worker(&self, name: &[u8]) -> bool
+        ensures { result ≡ is_some (worker_of name.now self.now.workers) }
+    {
+        worker_named(self.workers.as_slice(), name).is_some()
+    }
+
+    /// The request has arrived and has ended.
+    pub fn has_ended(&self, req: Req) -> bool
+        ensures { result ≡ has_ended (request_of req.0 self.now.requests) }
+    {
+        match request_named(self.requests.as_slice(), req) {
+            Some(row) => row.ended,
+            None => false,
+        }
     }
 
     /// The place of the request of this number.
