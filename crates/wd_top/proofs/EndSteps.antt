@@ -193,12 +193,13 @@ pub early_comes : (seat : Seat) (words : List (List ℕ)) (files : Option Stored
     → IsCaused (call_by words files rr mr lf) o → journal ≡ record { head = Whole; entries = [] } → ports ≡ 0
     → ((world : Config) → at_ports world)
     → Comes seat (call_by words files rr mr' lf') o journal ports at_ports
-early_comes seat words files rr mr mr' lf lf' o journal ports at_ports early (world, caused) empty no_ports at = record {
-  world = world;
-  caused = early_lift words files rr mr mr' lf lf' world o early caused;
-  early = λ e. inl (ap (λ j. j.entries) empty, no_ports);
-  ran = early_ran seat world o journal ports (at_ports world) early empty no_ports (at world);
-}
+early_comes seat words files rr mr mr' lf lf' o journal ports at_ports early (world, caused) empty no_ports at =
+    record {
+      world = world;
+      caused = early_lift words files rr mr mr' lf lf' world o early caused;
+      early = λ e. inl (ap (λ j. j.entries) empty, no_ports);
+      ran = early_ran seat world o journal ports (at_ports world) early empty no_ports (at world);
+    }
 
 -- the outcome of a session
 pub session_comes : (seat : Seat) (call : Call) (world : Config) (o : Outcome) (journal : Journal) (ports : ℕ)

@@ -7,7 +7,8 @@ pub loop-at-preserved : goal.loop-at-preserved
 loop-at-preserved c = (
   omega (arith, c.loop-at-test.true),
   c.loop-at.invariant.1
-      ∙ line_passed c.args.bytes.now c.loop-at.at c.loop-at-test.true (sym c.is_line_end.ensures ∙ c.if-is_line_end.true),
+      ∙ line_passed c.args.bytes.now c.loop-at.at c.loop-at-test.true
+      (sym c.is_line_end.ensures ∙ c.if-is_line_end.true),
 )
 
 pub returns : goal.returns
