@@ -7,8 +7,7 @@ ghost use Rattle.wd_plan.specs.Constant.{constant_means};
 ghost use Rattle.wd_plan.specs.Prepare.{IsPrepared};
 ghost use Rattle.wd_ports.specs.Faults.{ReadFile, Rose, part};
 ghost use Rattle.wd_top.specs.declared.outcome.Outcome.TheVariants as OutcomeIs;
-ghost use Rattle.wd_top.specs.Calls.{AskToServe, AtPorts, HandsOut, HasCause, IsNoCommand, KeepFiles};
-ghost use Rattle.wd_top.specs.Calls.{RefusesWords};
+ghost use Rattle.wd_top.specs.Calls.{AskToServe, AtPorts, HasCause, IsNoCommand, KeepFiles, RefusesWords};
 ghost use Rattle.wd_top.specs.Calls.{call_offline, call_with, no_command, printed_to, spoken, the_seat};
 ghost use Rattle.wd_top.specs.Ended.{Comes, Ends, EndsOffline, IsCaused, IsEarly, IsSessionEnd, NoPortMade};
 ghost use Rattle.wd_top.specs.Ended.{Ran as Runs};
@@ -77,7 +76,6 @@ fn serve<R: Wait, M: Maker>(
         result.journal.entries result.outcome world) }
     ensures end { IsSessionEnd the_seat result.outcome }
     ensures failed { NoPortMade result.outcome → Rose (M.failures maker.old) (M.failures maker.new) }
-    ensures given { HandsOut (length ports.new.items) (M.given maker.old) (M.given maker.new) }
     ensures files { KeepFiles the_seat M.plan maker.old M.Port.Files.told ports.new.items }
 {
     match Board::new(alloc, Seat(0), world, isolates) {
@@ -138,7 +136,6 @@ fn run<R: Wait, F: Files, M: Maker>(
     ensures words { (result.outcome ≡ no_command) ↔ IsNoCommand words.now }
     ensures later { part ReadFile (F.faults files.old) ≤ part ReadFile (F.faults files.new) }
     ensures tells { F.told files.new ≡ F.told files.old }
-    ensures given { HandsOut (length ports.new.items) (M.given maker.old) (M.given maker.new) }
     ensures files { KeepFiles the_seat M.plan maker.old M.Port.Files.told ports.new.items }
 {
     match begin(alloc, words, files) {
@@ -201,7 +198,6 @@ pub fn workerd<R: Threads + Wait + Sync, F: Files, M: Maker, K: Sink, G: Gate>(
         M.Port.Files.faults result.ports.items)
         (printed_to K.held K.failures out.old out.new) result.status }
     ensures words { RefusesWords words.now (printed_to K.held K.failures out.old out.new) result.status }
-    ensures given { HandsOut (length result.ports.items) (M.given maker.old) (M.given maker.new) }
     ensures later { part ReadFile (F.faults files.old) ≤ part ReadFile (F.faults files.new) }
     ensures files { F.told files.new ≡ F.told files.old }
     ensures disks { KeepFiles the_seat M.plan maker.old M.Port.Files.told result.ports.items }
