@@ -1,6 +1,6 @@
 ghost use Rattle.std.specs.Prelude.{◌≡◌, IfOk, map, option_map, string_bytes};
 ghost use Rattle.clap.specs.Words.{first_of, found_of, rows_of, subcommand_rows_of};
-ghost use Rattle.wd_command.specs.Command.{asked_in, asked_of, command, given, is_on, is_one, is_serve, run, verb_of};
+ghost use Rattle.wd_command.specs.Command.{asked_in, command, given, is_on, is_one, is_serve, run, verb_of};
 ghost use Rattle.wd_command.specs.Command.{wish, wish_of};
 
 use crate::notice::Notice;

@@ -1,14 +1,12 @@
-ghost use Rattle.std.specs.Prelude.{◌≡◌, ◌<◌, ◌≤◌, ◌^◌, ◌↔◌, ◌&&◌, List, ℕ, Option, Some, None, Err, length, map};
-ghost use Rattle.std.specs.Prelude.{string_bytes, IsTrue, IfOk, IfErr, IfSome};
-ghost use Rattle.std.specs.List.{list_all};
+ghost use Rattle.std.specs.Prelude.{◌≡◌, ◌<◌, ◌≤◌, ◌^◌, ◌&&◌, Some, None, Err, length, map};
+ghost use Rattle.std.specs.Prelude.{string_bytes, IfOk, IfSome};
 ghost use Rattle.wd_graph.specs.Links.{linked, first_unknown};
 ghost use Rattle.wd_command.specs.Command.{command, asked_of, wish};
 ghost use Rattle.wd_config.specs.Answer.{Differ};
 ghost use Rattle.wd_ports.specs.Faults.{ReadFile, RoseIn, part};
-ghost use Rattle.wd_ports.specs.Told.{file_at};
 ghost use Rattle.wd_plan.specs.declared.ready.PlanEnd.TheVariants as end;
 ghost use Rattle.wd_plan.specs.declared.refusal.Refusal.TheVariants as refusal;
-ghost use Rattle.wd_plan.specs.Plan.{Plans, AtConfig, AtFile, EmbedsPath, IsReadFor, IsReadPath, MayHold};
+ghost use Rattle.wd_plan.specs.Plan.{Plans, AtConfig, AtFile, EmbedsPath, IsReadFor, IsReadPath};
 ghost use Rattle.wd_plan.specs.Plan.{AtScripts, AtKinds, AtNames, may_go, other_kind};
 ghost use Rattle.wd_plan.specs.Prepare.{ShowsRead, IsShort, IsReadFault, IsPrepared, end_of, plan_of};
 ghost use Rattle.wd_plan.specs.Prepare.{OnFault, Heeds, IsAskedBy, IsLate, IsRefused};

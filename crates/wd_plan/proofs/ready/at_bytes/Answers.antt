@@ -1,4 +1,4 @@
-use Rattle.std.proofs.Common.{subst, sym, Err, IfSome, List, ℕ, Ok, Some, option_map}
+use Rattle.std.proofs.Common.{subst, sym, Err, IfSome, List, ℕ, Ok, Some}
 use Rattle.wd_base.specs.declared.config.Config.{Config}
 use Rattle.wd_command.specs.Command.{asked_of}
 use Rattle.wd_config.specs.Answer.{Answers, Answered}
