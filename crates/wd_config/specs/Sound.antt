@@ -51,8 +51,8 @@ abbrev pub ApartConfig : Item → Type 0
 ApartConfig (item.Config c) = AreSound c.services
 ApartConfig _ = Unit {0}
 
--- what is read as a name is free, and so is the name of a service; the services of a list differ in their names, and are
--- few
+-- what is read as a name is free, and so is the name of a service; the services of a list differ in their names, and
+-- are few
 unfoldable pub Sound : Names → Shape → Item → Type 0
 Sound taken (shape.Leaf leaf.Name) i = FreeText taken i
 Sound taken (shape.Struct struct.Service) i = FreeService taken i

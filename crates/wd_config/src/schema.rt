@@ -1,7 +1,7 @@
 ghost use Rattle.std.specs.Prelude.{◌≡◌};
 ghost use Rattle.wd_config.specs.Schema.{slot_number, same_slot, rule_in, rule_of};
-ghost use Rattle.wd_config.specs.Schema.{config_rows, service_rows, worker_rows, module_rows, binding_rows};
-ghost use Rattle.wd_config.specs.Schema.{designator_rows, network_rows, external_rows, disk_rows, socket_rows, http_rows};
+ghost use Rattle.wd_config.specs.Schema.{config_rows, service_rows, worker_rows, module_rows, binding_rows, http_rows};
+ghost use Rattle.wd_config.specs.Schema.{designator_rows, network_rows, external_rows, disk_rows, socket_rows};
 
 /// A value that is a text or bytes, and what it is read as.
 #[derive(Clone, Copy, Debug)]

@@ -541,7 +541,7 @@ fn files_are_found_by_their_paths(rt: HostRuntime) -> Result<(), Fail> {
     };
     let (wrong, files) = try_files(rt.alloc())?;
     assert_eq!(rt; (wrong, files.faults), (None, once));
-    let Some(path) = files.failed_read else {
+    let Some(path) = &files.failed_read else {
         panic!(rt; "no read failed");
     };
     assert_eq!(rt; path.as_slice(), b"d/a".as_slice());

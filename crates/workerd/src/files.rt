@@ -1,5 +1,6 @@
-ghost use Rattle.std.specs.Prelude.{◌≡◌, ◌≤◌, length, IfOk, IfSome};
-ghost use Rattle.wd_ports.specs.Faults.{no_faults};
+ghost use Rattle.std.specs.Prelude.{◌≡◌, ◌≤◌, length, Some, None, IfOk, IfSome};
+ghost use Rattle.wd_ports.specs.Faults.{Rose, faults_of_files, no_file_faults};
+ghost use Rattle.wd_ports.specs.Told.{file_limit};
 ghost use Rattle.wd_ports.specs.declared.told.Side.TheVariants as side;
 ghost use Rattle.workerd.specs.System.{files_told};
 
@@ -10,45 +11,54 @@ use std::fs::OpenFile;
 use std::io::Read;
 use std::rt::Files as FileSystem;
 use wd_base::{Bytes, Seq};
-use wd_ports::{Failed, Faults, FileFaults, FileKind, Files, Name, Names};
+use wd_ports::{FILE_LIMIT, Failed, FileFaults, FileKind, Files, NO_FILE_FAULTS, Name, Names};
 
 #[cfg(test)]
 mod tests;
 
-/// The most bytes of a file that is read.
-const READ_LIMIT: u64 = 536_870_912;
-
-/// A count without faults.
-pub const NO_FAULTS: Faults = Faults {
-    files: FileFaults {
-        read: 0,
-        list: 0,
-        write: 0,
-    },
-    listen: 0,
-    lookup: 0,
-    connect: 0,
-    read_accepted: 0,
-    read_connected: 0,
-    write_accepted: 0,
-    write_connected: 0,
-};
-
 /// The files of the system, with the count of their faults. It has no links.
 #[derive(Drop)]
 pub struct SystemFiles<R> {
-    rt: R,
-    faults: Faults,
+    pub rt: R,
+    pub faults: FileFaults,
+    /// The path of the last read that had a fault.
+    pub failed_read: Option<Bytes>,
 }
 
 impl<R> SystemFiles<R> {
     /// The files that the runtime reaches, with no fault counted.
     pub fn new(rt: R) -> SystemFiles<R>
-        ensures { result.faults ≡ no_faults }
+        ensures faults { result.faults ≡ no_file_faults }
+        ensures failed_read { result.failed_read ≡ None }
     {
         SystemFiles {
             rt,
-            faults: NO_FAULTS,
+            faults: NO_FILE_FAULTS,
+            failed_read: None,
+        }
+    }
+
+    /// Counts a read that came to no answer, and keeps its path, unless the trouble is want of
+    /// memory; and gives the answer for the caller. The path's copy may want memory too.
+    fn blame_read(&mut self, alloc: Global, path: &str, trouble: Trouble) -> Failed
+        ensures fault { result ≡ Failed.Fault → Rose self.old.faults.read self.new.faults.read }
+        ensures path { result ≡ Failed.Fault → self.new.failed_read ≡ Some path.now }
+        ensures memory { result ≡ Failed.NoMemory → self.new ≡ self.old }
+        ensures later { self.old.faults.read ≤ self.new.faults.read }
+        ensures rest { self.new ≡ record self.old {
+          faults = record self.old.faults { read = self.new.faults.read };
+          failed_read = self.new.failed_read;
+        } }
+    {
+        let Ok(path) = Seq::copy(alloc, path.as_bytes()) else {
+            return Failed::NoMemory;
+        };
+        match blame(&mut self.faults.read, trouble) {
+            Failed::NoMemory => Failed::NoMemory,
+            Failed::Fault => {
+                self.failed_read = Some(path);
+                Failed::Fault
+            }
         }
     }
 }
@@ -56,7 +66,9 @@ impl<R> SystemFiles<R> {
 impl<R: FileSystem + AllocGlobal + Clone + Drop> Files for SystemFiles<R> {
     ghost told = { λ _. files_told };
 
-    ghost faults = { λ f. f.faults };
+    ghost faults = { λ f. faults_of_files f.faults };
+
+    ghost failed_read = { λ f. f.failed_read };
 
     ghost usable = { λ _ _. ⊥ };
 
@@ -67,41 +79,41 @@ impl<R: FileSystem + AllocGlobal + Clone + Drop> Files for SystemFiles<R> {
     fn read(&mut self, alloc: Global, path: &str) -> Result<Option<Bytes>, Failed> {
         match read_file(&self.rt, alloc, path) {
             Ok(found) => Ok(found),
-            Err(trouble) => Err(blame(&mut self.faults.files.read, trouble)),
+            Err(trouble) => Err(self.blame_read(alloc, path, trouble)),
         }
     }
 
     fn list(&mut self, alloc: Global, path: &str) -> Result<Option<Names>, Failed> {
         match list_folder(&self.rt, alloc, path) {
             Ok(found) => Ok(found),
-            Err(trouble) => Err(blame(&mut self.faults.files.list, trouble)),
+            Err(trouble) => Err(blame(&mut self.faults.list, trouble)),
         }
     }
 
     fn write(&mut self, _alloc: Global, path: &str, bytes: &[u8]) -> Result<(), Failed> {
         match fs::write(&self.rt, path, bytes) {
             Ok(()) => Ok(()),
-            Err(error) => Err(blame(&mut self.faults.files.write, Trouble::from(error))),
+            Err(error) => Err(blame(&mut self.faults.write, Trouble::from(error))),
         }
     }
 }
 
-/// The bytes of the file of a path, at most 536,870,912, and None where no file has it. A longer
+/// The bytes of the file of a path, at most `FILE_LIMIT`, and None where no file has it. A longer
 /// file is trouble.
-pub fn read_file<R: FileSystem>(rt: &R, alloc: Global, path: &str) -> Result<Option<Bytes>, Trouble>
-    ensures room { IfOk result (λ found. IfSome found (λ bytes. length bytes ≤ 536870912)) }
+fn read_file<R: FileSystem>(rt: &R, alloc: Global, path: &str) -> Result<Option<Bytes>, Trouble>
+    ensures room { IfOk result (λ found. IfSome found (λ bytes. length bytes ≤ file_limit)) }
 {
     let file = match fs::open(rt, path) {
         Ok(file) => file,
         Err(error) if is_no_file(error.kind()) => return Ok(None),
         Err(error) => return Err(Trouble::from(error)),
     };
-    if file.metadata()?.len() > READ_LIMIT {
+    if file.metadata()?.len() > FILE_LIMIT as u64 {
         return Err(Trouble::TooLong);
     }
     let mut bytes = Vec::new(alloc);
-    match file.take(READ_LIMIT + 1).read_to_end(&mut bytes) {
-        Ok(_) if bytes.len() as u64 <= READ_LIMIT => Ok(Some(Seq::from_vec(bytes))),
+    match file.take(FILE_LIMIT as u64 + 1).read_to_end(&mut bytes) {
+        Ok(_) if bytes.len() <= FILE_LIMIT => Ok(Some(Seq::from_vec(bytes))),
         Ok(_) => Err(Trouble::TooLong),
         Err(error) if is_no_file(error.kind()) => Ok(None),
         Err(error) => Err(Trouble::from(error)),
@@ -110,7 +122,7 @@ pub fn read_file<R: FileSystem>(rt: &R, alloc: Global, path: &str) -> Result<Opt
 
 /// The files and folders in the folder of a path, links of the file system followed, and None
 /// where no folder has it. What is neither is left out.
-pub fn list_folder<R: FileSystem + AllocGlobal + Clone + Drop>(
+fn list_folder<R: FileSystem + AllocGlobal + Clone + Drop>(
     rt: &R,
     alloc: Global,
     path: &str,

@@ -2,7 +2,7 @@ ghost use Rattle.std.specs.Prelude.{◌≡◌, ℕ, [], ◌+◌, ◌<◌, ◌++�
 ghost use Rattle.std.specs.Ordering.{nat_cmp};
 ghost use Rattle.std.specs.BTreeMap.{ContainsKey};
 
-use crate::files::{NO_FAULTS, list_folder, read_file};
+use crate::files::SystemFiles;
 use crate::input::{INPUT, InputEnd};
 use crate::link::{Link, Patience};
 use crate::listener::Listener;
@@ -11,13 +11,12 @@ use mio::net::{TcpListener, TcpStream};
 use mio::{Events, Interest, Poll, Token};
 use std::alloc::{AllocGlobal, Global};
 use std::collections::BTreeMap;
-use std::fs;
 use std::io::Input;
 use std::net::{IpAddr, Ipv4Addr, Net, SocketAddr};
 use std::rt::Files as FileSystem;
 use std::time::Duration;
 use wd_base::{Addr, Bytes, Ip4, Ips, LinkNo, NoMemory, Seq, SockNo, TryClone};
-use wd_ports::{Accepted, Failed, Faults, Files, Got, Names, Port};
+use wd_ports::{Accepted, Failed, Faults, Files, Got, NO_FAULTS, Names, Port};
 
 #[cfg(test)]
 mod tests;
@@ -47,7 +46,7 @@ const FIRST_SOCKET: usize = 1 << 32;
 /// waiting in each `accept`, with which a seat begins each of its rounds, and with a wait in `idle`.
 #[derive(Drop)]
 pub struct SystemPort<R> {
-    rt: R,
+    files: SystemFiles<R>,
     poll: Poll,
     events: Events,
     patience: Patience,
@@ -65,6 +64,7 @@ pub struct SystemPort<R> {
     links: BTreeMap<u32, Link>,
     given: u32,
     closed: bool,
+    /// The count of its own calls. Its files have their own.
     faults: Faults,
 }
 
@@ -72,14 +72,15 @@ impl<R> SystemPort<R> {
     ghost use Rattle.std.specs.Prelude.{None};
     ghost use Rattle.wd_ports.specs.Told.{IsNewPort};
     ghost use Rattle.wd_ports.specs.Faults.{no_faults};
-    ghost use Rattle.workerd.specs.System.{port_told};
+    ghost use Rattle.workerd.specs.System.{port_faults, port_told};
 
     /// A port without sockets and links, and with no fault counted.
     pub fn new(rt: R, alloc: Global) -> Result<SystemPort<R>, Trouble>
     where
         R: Net + Drop,
         ensures fresh { IfOk result (λ p. IsNewPort (port_told p)) }
-        ensures none { IfOk result (λ p. p.faults ≡ no_faults) }
+        ensures none { IfOk result (λ p. port_faults p ≡ no_faults) }
+        ensures path { IfOk result (λ p. p.files.failed_read ≡ None) }
     {
         let poll = Poll::new(&rt)?;
         let input = InputEnd::watch(&poll);
@@ -89,7 +90,7 @@ impl<R> SystemPort<R> {
         };
         let events = Events::with_capacity(alloc, EVENTS)?;
         Ok(SystemPort {
-            rt,
+            files: SystemFiles::new(rt),
             poll,
             events,
             patience,
@@ -182,11 +183,13 @@ fn take_waiting(listeners: &mut Vec<Listener>, first: usize) -> Option<(usize, T
 impl<R: FileSystem + AllocGlobal + Clone + Drop> Files for SystemPort<R> {
     ghost use Rattle.std.specs.Prelude.{⊤};
     ghost use Rattle.wd_ports.specs.declared.told.Side.TheVariants as side;
-    ghost use Rattle.workerd.specs.System.{port_told, port_usable};
+    ghost use Rattle.workerd.specs.System.{port_failed_read, port_faults, port_told, port_usable};
 
     ghost told = { port_told };
 
-    ghost faults = { λ p. p.faults };
+    ghost faults = { port_faults };
+
+    ghost failed_read = { port_failed_read };
 
     ghost usable = { port_usable };
 
@@ -195,24 +198,15 @@ impl<R: FileSystem + AllocGlobal + Clone + Drop> Files for SystemPort<R> {
     ghost gone = { λ _ _. ⊤ };
 
     fn read(&mut self, alloc: Global, path: &str) -> Result<Option<Bytes>, Failed> {
-        match read_file(&self.rt, alloc, path) {
-            Ok(found) => Ok(found),
-            Err(trouble) => Err(blame(&mut self.faults.files.read, trouble)),
-        }
+        self.files.read(alloc, path)
     }
 
     fn list(&mut self, alloc: Global, path: &str) -> Result<Option<Names>, Failed> {
-        match list_folder(&self.rt, alloc, path) {
-            Ok(found) => Ok(found),
-            Err(trouble) => Err(blame(&mut self.faults.files.list, trouble)),
-        }
+        self.files.list(alloc, path)
     }
 
-    fn write(&mut self, _alloc: Global, path: &str, bytes: &[u8]) -> Result<(), Failed> {
-        match fs::write(&self.rt, path, bytes) {
-            Ok(()) => Ok(()),
-            Err(error) => Err(blame(&mut self.faults.files.write, Trouble::from(error))),
-        }
+    fn write(&mut self, alloc: Global, path: &str, bytes: &[u8]) -> Result<(), Failed> {
+        self.files.write(alloc, path, bytes)
     }
 }
 
@@ -226,12 +220,13 @@ impl<R> SystemPort<R> {
         R: Input,
         ensures tells { port_told self.new ≡ port_told self.old }
         ensures faults { self.new.faults ≡ self.old.faults }
+        ensures files { self.new.files ≡ self.old.files }
         ensures links { HasSameLinks self.old self.new }
     {
         if self.poll.poll(&mut self.events, Some(wait)).is_ok() {
             note_news(&self.events, &mut self.listeners, &mut self.links);
             if has_input(&self.events) {
-                self.input.read(&self.rt, &self.poll);
+                self.input.read(&self.files.rt, &self.poll);
             }
         }
     }
@@ -240,6 +235,7 @@ impl<R> SystemPort<R> {
     fn count_wait(&mut self)
         ensures tells { port_told self.new ≡ port_told self.old }
         ensures faults { self.new.faults ≡ self.old.faults }
+        ensures files { self.new.files ≡ self.old.files }
         ensures links { HasSameLinks self.old self.new }
     {
         if self.input.seen && self.events.is_empty() {
@@ -260,6 +256,7 @@ impl<R> SystemPort<R> {
         ensures socket { IfSome result (λ w. w.0.0 < length self.old.sockets) }
         ensures tells { port_told self.new ≡ port_told self.old }
         ensures faults { self.new.faults ≡ self.old.faults }
+        ensures files { self.new.files ≡ self.old.files }
         ensures links { HasSameLinks self.old self.new }
     {
         if !self.polled {
@@ -282,6 +279,7 @@ impl<R> SystemPort<R> {
         ensures ok { OnOk result (self.new.sockets ≡ self.old.sockets ++ address.now ∷ []) }
         ensures err { OnErr result (self.new.sockets ≡ self.old.sockets) }
         ensures faults { self.new.faults ≡ self.old.faults }
+        ensures files { self.new.files ≡ self.old.files }
         ensures links { self.new.links ≡ self.old.links }
         ensures given { self.new.given ≡ self.old.given }
         ensures closed { self.new.closed ≡ self.old.closed }
@@ -291,7 +289,7 @@ impl<R> SystemPort<R> {
             return Err(Trouble::NoMemory);
         };
         let copy = address.try_clone(alloc)?;
-        let listener = open_listener(&self.rt, &self.poll, count, address)?;
+        let listener = open_listener(&self.files.rt, &self.poll, count, address)?;
         if self.listeners.push(listener).is_err() {
             return Err(Trouble::NoMemory);
         }
@@ -310,6 +308,7 @@ impl<R> SystemPort<R> {
         ensures ok { OnOk result (port_told self.new ≡ record (port_told self.old) { given = self.old.given + 1 }) }
         ensures err { OnErr result (port_told self.new ≡ port_told self.old) }
         ensures faults { self.new.faults ≡ self.old.faults }
+        ensures files { self.new.files ≡ self.old.files }
         ensures keeps { (n : LinkNo) → port_usable self.old n → port_usable self.new n }
         ensures links { OnErr result (HasSameLinks self.old self.new) }
     {
@@ -330,14 +329,13 @@ impl<R> SystemPort<R> {
     }
 }
 
-#[tactic(auto, unfolding(wd_ports::specs::Told::given_on, wd_ports::specs::Told::received_on, wd_ports::specs::Told::ended_on, wd_ports::specs::Told::sent_on, wd_ports::specs::Told::shut_on))]
 impl<R: FileSystem + AllocGlobal + Input + Net + Clone + Drop> Port for SystemPort<R> {
     ghost use Rattle.std.specs.Prelude.{◌≡◌, ⊤, Ok, IfOk, OnErr};
     ghost use Rattle.wd_ports.specs.declared.told.Accepted.TheVariants as accepted;
     ghost use Rattle.wd_ports.specs.declared.told.Side.TheVariants as side;
-    ghost use Rattle.wd_ports.specs.Links.{IsFresh, UsableLink, Stays};
+    ghost use Rattle.wd_ports.specs.Links.{IsFresh, UsableLink};
     ghost use Rattle.wd_ports.specs.Told.{after_accept};
-    ghost use Rattle.workerd.specs.System.{AddsNoLink, KeepsLinks, MayClose, port_told, port_usable};
+    ghost use Rattle.workerd.specs.System.{AddsNoLink, LeavesPort, MayClose, port_faults, port_told, port_usable};
 
     fn listen(&mut self, alloc: Global, address: &Addr) -> Result<SockNo, Failed> {
         match self.add_socket(alloc, address) {
@@ -346,14 +344,14 @@ impl<R: FileSystem + AllocGlobal + Input + Net + Clone + Drop> Port for SystemPo
         }
     }
 
+    #[tactic(auto, unfolding(wd_ports::specs::Told::given_on))]
     fn accept(&mut self, _alloc: Global) -> Result<Accepted, NoMemory>
         ensures closed { result ≡ Ok accepted.Closed → MayClose self.old }
         ensures fresh { IfOk result (λ a. IsFresh a (port_told self.old)) }
         ensures link { IfOk result (λ a. UsableLink a (port_usable self.new) (λ _. side.Accepted)) }
         ensures tells { port_told self.new ≡ after_accept result (port_told self.old) }
-        ensures blames { self.new.faults ≡ self.old.faults }
-        ensures keeps { KeepsLinks self.old self.new }
-        ensures stays { Stays (λ _. ⊤) (λ _. ⊤) }
+        ensures blames { port_faults self.new ≡ port_faults self.old }
+        ensures leaves { LeavesPort self.old self.new }
         ensures memory { OnErr result (AddsNoLink self.old self.new) }
     {
         if self.closed || self.input.seen || self.given == u32::MAX {
@@ -374,10 +372,12 @@ impl<R: FileSystem + AllocGlobal + Input + Net + Clone + Drop> Port for SystemPo
         Err(blame(&mut self.faults.lookup, Trouble::NoAddress))
     }
 
+    #[tactic(auto, unfolding(wd_ports::specs::Told::given_on))]
     fn connect(&mut self, _alloc: Global, _ip: Ip4, _port: u16) -> Result<LinkNo, Failed> {
         Err(blame(&mut self.faults.connect, Trouble::NoAddress))
     }
 
+    #[tactic(auto, unfolding(wd_ports::specs::Told::received_on, wd_ports::specs::Told::ended_on))]
     fn read_link(&mut self, link: LinkNo, buf: &mut [u8]) -> Result<Got, Failed> {
         if let Some(entry) = self.links.get_mut(&link.0) {
             if let Some(got) = entry.read(buf) {
@@ -388,6 +388,7 @@ impl<R: FileSystem + AllocGlobal + Input + Net + Clone + Drop> Port for SystemPo
         Err(Failed::Fault)
     }
 
+    #[tactic(auto, unfolding(wd_ports::specs::Told::sent_on))]
     fn write_link(&mut self, link: LinkNo, bytes: &[u8]) -> Result<usize, Failed> {
         if let Some(entry) = self.links.get_mut(&link.0) {
             if let Some(count) = entry.write(&mut self.patience, bytes) {
@@ -405,6 +406,7 @@ impl<R: FileSystem + AllocGlobal + Input + Net + Clone + Drop> Port for SystemPo
         }
     }
 
+    #[tactic(auto, unfolding(wd_ports::specs::Told::shut_on))]
     fn shut(&mut self, link: LinkNo) {
         if let Some(entry) = self.links.remove(&link.0) {
             entry.close();

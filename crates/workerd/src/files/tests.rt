@@ -1,9 +1,9 @@
-use super::{NO_FAULTS, READ_LIMIT, SystemFiles};
+use super::SystemFiles;
 use std::alloc::{AllocError, Global};
 use std::fs::File;
 use std::test::Fail;
 use std::{fs, process};
-use wd_ports::{Failed, FileKind, Files};
+use wd_ports::{FILE_LIMIT, Failed, FileKind, Files, NO_FILE_FAULTS};
 
 /// A new folder of this name for a test, with an empty folder `inner`.
 fn test_folder(rt: &HostRuntime, name: &str) -> Result<String, Fail> {
@@ -61,16 +61,16 @@ fn what_is_missing_and_what_fails(rt: HostRuntime) -> Result<(), Fail> {
     assert!(rt; files.read(alloc, none.as_str())?.is_none());
     assert!(rt; files.read(alloc, inner.as_str())?.is_none());
     assert!(rt; files.list(alloc, none.as_str())?.is_none());
-    assert_eq!(rt; files.faults, NO_FAULTS);
+    assert_eq!(rt; files.faults, NO_FILE_FAULTS);
 
     // A file that is too long, and a folder where a file is to be written.
-    File::create(&rt, long.as_str())?.set_len(READ_LIMIT + 1)?;
+    File::create(&rt, long.as_str())?.set_len(FILE_LIMIT as u64 + 1)?;
     assert_eq!(rt; files.read(alloc, long.as_str()).err(), Some(Failed::Fault));
     assert_eq!(rt;
         files.write(alloc, inner.as_str(), b"x"),
         Err(Failed::Fault)
     );
-    assert_eq!(rt; (files.faults.files.read, files.faults.files.write), (1, 1));
+    assert_eq!(rt; (files.faults.read, files.faults.write), (1, 1));
     fs::remove_dir_all(&rt, folder.as_str())?;
     Ok(())
 }
