@@ -1,5 +1,5 @@
 -- Calls that are counted, and what they are blamed for.
-use Rattle.std.proofs.Common.{◌≡◌, ℕ, ◌≤◌, refl, ap, sym, ◌∙◌, arith}
+use Rattle.std.proofs.Common.{ℕ, ◌≤◌, refl, ap, sym, ◌∙◌, arith}
 use Rattle.std.specs.Prelude.{Result, Ok, Err}
 use Rattle.wd_ports.specs.declared.told.Failed.{Failed}
 use Rattle.wd_ports.specs.declared.told.Failed.TheVariants.{Fault, NoMemory}
