@@ -1,9 +1,14 @@
--- Rows of variables at the end of the cells.
-use Rattle.std.proofs.Common.{◌≡◌, ap, refl, ℕ, zero, suc, ◌+◌, List, [], ◌∷◌, ◌++◌, length, take, replicate}
+-- Rows of cells at the end of the cells.
+use Rattle.std.proofs.Common.{◌≡◌, ap, refl, ℕ, zero, suc, ◌+◌, ◌≤◌, List, [], ◌∷◌, ◌++◌, length, take, replicate}
 use Rattle.std.proofs.Common.{add-one, append_assoc, arith}
 use Rattle.std.proofs.Math.Seq.{take-append_seam}
 use Rattle.std.proofs.lemmas.List.{length-append}
+use Rattle.std.proofs.lemmas.List.Sums.{sum_by-cons}
+use Rattle.std.specs.Prelude.{sum_by}
 use Rattle.js_arena.specs.declared.value.Cell.{Cell}
+use Rattle.js_arena.specs.declared.value.Cell.TheVariants.{Text, Variable, Object, Array, Function, Activation, Error}
+use Rattle.js_arena.specs.declared.value.Cell.TheVariants.{Buffer}
+use Rattle.js_arena.specs.Units.{units}
 
 replicate_suc : (n : ℕ) (x : Cell) → replicate n x ++ x ∷ [] ≡ replicate (suc n) x
 replicate_suc zero x = refl
@@ -25,3 +30,24 @@ rows_length cells n x =
     let h = length_replicate n x in
     let l = length-append cells (replicate n x) in
     omega (arith, h, l)
+
+-- a cell takes one unit at least
+cell_takes : (cell : Cell) → 1 ≤ units cell
+cell_takes (Text t) = omega arith
+cell_takes (Variable v) = omega arith
+cell_takes (Object props) = omega arith
+cell_takes (Array items) = omega arith
+cell_takes (Function n) = omega arith
+cell_takes Activation = omega arith
+cell_takes (Error kind msg) = omega arith
+cell_takes (Buffer bytes) = omega arith
+
+-- so cells are no more than their units
+pub cells_take : (cells : List Cell) → length cells ≤ sum_by units cells
+cells_take [] = omega arith
+cells_take (c ∷ cs) = let e = sum_by-cons units c cs in omega (arith, e, cell_takes c, cells_take cs)
+
+-- the cells with more behind them are no more than the units with theirs
+pub cells_within : (cells more : List Cell) (n : ℕ) → length cells ≤ n
+    → length (cells ++ more) ≤ n + sum_by units more
+cells_within cells more n h = let l = length-append cells more in omega (arith, h, l, cells_take more)

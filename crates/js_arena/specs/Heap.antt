@@ -1,6 +1,6 @@
 -- A script's heap, and each change of it.
 use Rattle.std.specs.Prelude.{◌≡◌, ℕ, ◌+◌, ◌-◌, ◌*◌, ◌==◌, ◌&&◌, ◌||◌, Bool, true, false, List, [], ◌∷◌, ◌++◌}
-use Rattle.std.specs.Prelude.{length, map, take, nat_le, replicate, slice_get, slice_set, Option, Some, None, Result}
+use Rattle.std.specs.Prelude.{length, map, sum_by, take, nat_le, replicate, slice_get, slice_set, Option, Some, None, Result}
 use Rattle.std.specs.Prelude.{Ok, Err}
 use Rattle.std.specs.Bool.{beq}
 use Rattle.std.specs.List.{list_any, position_or_len}
@@ -120,6 +120,10 @@ put_at at key v cells = slice_set cells at (Object (put_prop key v (props_of (sl
 abbrev pub push_at : ℕ → Value → List Cell → List Cell
 push_at at v cells = slice_set cells at (Array (items_of (slice_get cells at) ++ v ∷ []))
 
+-- the array under this number has these items behind its own
+abbrev pub append_at : ℕ → List Value → List Cell → List Cell
+append_at at vs cells = slice_set cells at (Array (items_of (slice_get cells at) ++ vs))
+
 -- the array under this number has another item at this index
 abbrev pub set_at : ℕ → ℕ → Value → List Cell → List Cell
 set_at at i v cells = slice_set cells at (Array (slice_set (items_of (slice_get cells at)) i v))
@@ -139,6 +143,10 @@ with_prop at key v h = record h { cells = put_at at.0 key v h.cells; taken = h.t
 -- the heap after one more item at the end of the array, for 2 units
 abbrev pub with_item : CellNo → Value → Heap → Heap
 with_item at v h = record h { cells = push_at at.0 v h.cells; taken = h.taken + 2 }
+
+-- the heap after these items behind those of the array, for 2 units each
+abbrev pub with_items : CellNo → List Value → Heap → Heap
+with_items at vs h = record h { cells = append_at at.0 vs h.cells; taken = h.taken + 2 * length vs }
 
 -- the heap after another value took the place of the item at this index; no units are taken
 abbrev pub with_item_at : CellNo → ℕ → Value → Heap → Heap
@@ -170,6 +178,12 @@ abbrev pub AddsCell : Cell → Heap → Heap → Result CellNo ArenaEnd → Type
 AddsCell cell old new result =
     Adds old (units cell) (λ no. (no.0 ≡ length old.cells) × (new ≡ with_cell cell old)) new result
 
+-- new cells in a row, the first under the next number
+abbrev pub AddsCells : List Cell → Heap → Heap → Result CellNo ArenaEnd → Type 0
+AddsCells cells old new result =
+    let n = sum_by units cells in
+    Adds old n (λ no. (no.0 ≡ length old.cells) × (new ≡ with_cells cells n old)) new result
+
 -- n new variables, the first under the next number
 abbrev pub AddsVariables : ℕ → Heap → Heap → Result CellNo ArenaEnd → Type 0
 AddsVariables n old new result =
@@ -178,6 +192,10 @@ AddsVariables n old new result =
 -- a write of a property
 abbrev pub AddsProp : {A : Type 0} → CellNo → List ℕ → Value → Heap → Heap → Result A ArenaEnd → Type 0
 AddsProp at key v old new result = Adds old (prop_units at key old) (λ _. new ≡ with_prop at key v old) new result
+
+-- new items behind those of an array
+abbrev pub AddsItems : {A : Type 0} → CellNo → List Value → Heap → Heap → Result A ArenaEnd → Type 0
+AddsItems at vs old new result = Adds old (2 * length vs) (λ _. new ≡ with_items at vs old) new result
 
 -- another cell in the place of one of its kind
 abbrev pub Replaces : {A : Type 0} → CellNo → Cell → Heap → Heap → Result A ArenaEnd → Type 0

@@ -1,12 +1,12 @@
-ghost use Rattle.std.specs.Prelude.{◌≡◌, [], ◌∷◌, ◌++◌, ◌<◌, ◌≤◌, ◌+◌, ◌*◌, length, map, nat_le, replicate, slice_get};
+ghost use Rattle.std.specs.Prelude.{◌≡◌, [], ◌∷◌, ◌++◌, ◌<◌, ◌≤◌, ◌+◌, ◌*◌, length, map, nat_le, replicate, slice_get, sum_by};
 ghost use Rattle.std.specs.Prelude.{slice_set, true, false};
 ghost use Rattle.std.specs.Prelude.{Option, Some, None, option_map, IfOk, OnOk, OnErr, IfSome, IsNone};
 ghost use Rattle.std.specs.Option.{option_copied};
 ghost use Rattle.std.specs.List.{list_any};
 ghost use Rattle.js_arena.specs.Props.{put_prop, put_units};
 ghost use Rattle.js_arena.specs.Units.{units};
-ghost use Rattle.js_arena.specs.Heap.{Heap, Adds, AddsCell, AddsVariables, AddsProp, Replaces, cell_at, put_at};
-ghost use Rattle.js_arena.specs.Heap.{push_at, set_at, pop_at};
+ghost use Rattle.js_arena.specs.Heap.{Heap, Adds, AddsCell, AddsCells, AddsItems, AddsVariables, AddsProp, Replaces, cell_at, put_at};
+ghost use Rattle.js_arena.specs.Heap.{push_at, append_at, set_at, pop_at, fits};
 ghost use Rattle.js_arena.specs.Heap.{with_value, with_item, with_item_at, without_last, without_end, last_of};
 ghost use Rattle.js_arena.specs.Heap.{same_kind, more_units};
 ghost use Rattle.js_arena.specs.Heap.{is_variable, is_object, is_array, props_of, items_of, text_of, text_in};
@@ -132,6 +132,25 @@ fn push_item(cell: &mut Cell, value: Value) -> Result<(), NoMemory>
     }
 }
 
+fn append_items(cell: &mut Cell, values: &[Value]) -> Result<(), NoMemory>
+    requires { is_array (Some cell.old) ≡ true }
+    ensures ok { OnOk result (cell.new ≡ Array (items_of (Some cell.old) ++ values.now)) }
+    ensures err { OnErr result (cell.new ≡ cell.old) }
+{
+    match cell {
+        Cell::Array(items) => items.extend(values),
+        _ => unreachable!(),
+    }
+}
+
+fn append_at(cells: &mut Vec<Cell>, at: usize, values: &[Value]) -> Result<(), NoMemory>
+    requires { is_array (slice_get cells.old.items at) ≡ true }
+    ensures ok { OnOk result (cells.new.items ≡ append_at at values.now cells.old.items) }
+    ensures err { OnErr result (cells.new.items ≡ cells.old.items) }
+{
+    append_items(&mut cells[at], values)
+}
+
 fn push_at(cells: &mut Vec<Cell>, at: usize, value: Value) -> Result<(), NoMemory>
     requires { is_array (slice_get cells.old.items at) ≡ true }
     ensures ok { OnOk result (cells.new.items ≡ push_at at value cells.old.items) }
@@ -213,6 +232,30 @@ fn push_variables(cells: &mut Vec<Cell>, count: u32) -> Result<(), NoMemory>
     Ok(())
 }
 
+/// The units that are taken with all of these cells, where they fit.
+fn room_for(total: u32, limit: u32, cells: &[Cell]) -> Option<u32>
+    requires { total ≤ limit }
+    ensures some { IfSome result (λ t. (t ≡ total + sum_by units cells.now) × (t ≤ limit)) }
+    ensures none { IsNone result → nat_le (total + sum_by units cells.now) limit ≡ false }
+{
+    let mut taken = total;
+    for cell in cells {
+        taken = room(taken, limit, units_of(cell))?;
+    }
+    Some(taken)
+}
+
+fn append_cells(cells: &mut Vec<Cell>, more: Vec<Cell>) -> Result<(), NoMemory>
+    ensures ok { OnOk result (cells.new.items ≡ cells.old.items ++ more.items) }
+    ensures err { OnErr result (cells.new.items ≡ cells.old.items) }
+{
+    let mut more = more;
+    match cells.append(&mut more) {
+        Ok(()) => Ok(()),
+        Err(_) => Err(NoMemory),
+    }
+}
+
 fn text_at(texts: &Seq<Units>, at: usize) -> Option<&[u16]>
     ensures { option_map (λ t. t.now) result ≡ slice_get texts.now at }
 {
@@ -291,6 +334,35 @@ impl Arena {
         }
     }
 
+    /// The number that the next cell gets, where the heap has room for so many units more, and so for so many cells.
+    pub fn next(&self, count: usize) -> Option<CellNo>
+        ensures some { IfSome result (λ no. (no.0 ≡ length self.now.cells) × (no.0 + count ≤ 4294967295)) }
+        ensures none { IsNone result → fits self.now count ≡ false }
+    {
+        match room(self.total, self.limit, count as u128) {
+            Some(_) => Some(CellNo(self.cells.len() as u32)),
+            None => None,
+        }
+    }
+
+    /// New cells in a row, for their units; the number is that of the first. All are made, or none.
+    #[tactic(auto, using(crate::proofs::Rows::cells_within))]
+    pub fn alloc_cells(&mut self, cells: Vec<Cell>) -> Result<CellNo, ArenaEnd>
+        ensures { AddsCells cells.items self.old self.new result }
+    {
+        let Some(total) = room_for(self.total, self.limit, cells.as_slice()) else {
+            return Err(ArenaEnd::Full);
+        };
+        let no = CellNo(self.cells.len() as u32);
+        match append_cells(&mut self.cells, cells) {
+            Ok(()) => {
+                self.total = total;
+                Ok(no)
+            }
+            Err(_) => Err(ArenaEnd::NoMemory),
+        }
+    }
+
     /// The cell of a number that is the heap's own.
     pub fn get(&self, no: CellNo) -> &Cell
         requires { no.0 < length self.now.cells }
@@ -347,6 +419,23 @@ impl Arena {
             return Err(ArenaEnd::Full);
         };
         match push_at(&mut self.cells, no.0 as usize, value) {
+            Ok(()) => {
+                self.total = total;
+                Ok(())
+            }
+            Err(_) => Err(ArenaEnd::NoMemory),
+        }
+    }
+
+    /// Adds items at the end of an array, for 2 units each. All are added, or none.
+    pub fn append(&mut self, no: CellNo, values: &[Value]) -> Result<(), ArenaEnd>
+        requires { is_array (cell_at self.old no) ≡ true }
+        ensures { AddsItems no values.now self.old self.new result }
+    {
+        let Some(total) = room(self.total, self.limit, 2 * values.len() as u128) else {
+            return Err(ArenaEnd::Full);
+        };
+        match append_at(&mut self.cells, no.0 as usize, values) {
             Ok(()) => {
                 self.total = total;
                 Ok(())

@@ -9,6 +9,7 @@ mod operators;
 #[cfg(test)]
 mod tests;
 
-pub use convert::{text_of_value, to_number, truth};
+pub use compare::identical;
+pub use convert::{text_of_value, to_number, truth, widened};
 pub use kinds::{Binary, Fault, Unary};
-pub use operators::{binary, thrown, unary};
+pub use operators::{binary, text_in, thrown, unary};

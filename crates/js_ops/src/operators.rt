@@ -211,8 +211,8 @@ pub fn thrown(fault: Fault) -> OpEnd
     }
 }
 
-/// A new string behind the cells.
-fn text_in(arena: &mut Arena, units: Units) -> Result<Value, OpEnd>
+/// A new string behind the cells, for 4 units and one for each of its own; `Full` comes exactly where they do not fit.
+pub fn text_in(arena: &mut Arena, units: Units) -> Result<Value, OpEnd>
     ensures { Ops (text_in units) arena.old arena.new result }
 {
     match arena.alloc_cell(Cell::Text(units)) {

@@ -1,5 +1,5 @@
 -- The members of strings that are called (ECMA-262, section 22.1.3).
-use Rattle.std.specs.Prelude.{ℕ, zero, suc, ◌+◌, ◌-◌, ◌==◌, ◌||◌, ◌&&◌, Bool, List, [], ◌∷◌, length, map, reverse, drop, take}
+use Rattle.std.specs.Prelude.{ℕ, zero, suc, ◌+◌, ◌-◌, ◌%◌, ◌==◌, ◌||◌, ◌&&◌, Bool, List, [], ◌∷◌, length, map, reverse, drop, take}
 use Rattle.std.specs.Prelude.{slice_get, slice_range, nat_eq, nat_le, min, find, Option, Some, None, is_some, Result, Ok}
 use Rattle.std.specs.Prelude.{Err, ℤ, pos, negsuc, if◌then◌else◌}
 use Rattle.std.specs.List.{range_with_len, starts_with, ends_with, prefix_len, suffix_len, onto_first}
@@ -13,7 +13,7 @@ use Rattle.js_ops.specs.declared.kinds.Fault.TheVariants.{NotSafe}
 use Rattle.js_objects.specs.declared.made.Made.{Made}
 use Rattle.js_objects.specs.declared.made.Made.TheVariants.{Gives, Text, Texts}
 use Rattle.js_objects.specs.Arguments.{argument, relative, clamped, number_or, of_places}
-use Rattle.js_objects.specs.Arrays.{place_made}
+use Rattle.js_objects.specs.Arrays.{place_made, found_made}
 use Rattle.js_objects.specs.Made.{bad_argument, of_fault, made_in}
 
 -- the text has the other one at this place
@@ -81,3 +81,40 @@ pieces t zero (c ∷ cs) =
 abbrev pub split_at : List ℕ → List ℕ → List (List ℕ)
 split_at [] us = map (λ c. c ∷ []) us
 split_at (c ∷ cs) us = pieces (c ∷ cs) 0 us
+
+-- ToUint32 (section 7.1.7): what is left of a number by 2 ^ 32
+abbrev pub to_uint32 : ℤ → ℕ
+to_uint32 (pos n) = n % 4294967296
+to_uint32 (negsuc n) = 4294967295 - n % 4294967296
+
+-- the first pieces, as many as a number says, and all where it is undefined; any other value is a bad argument
+abbrev pub limited : Value → List (List ℕ) → Made
+limited value.Undefined parts = Texts parts
+limited (value.Number n) parts = Texts (take (to_uint32 n) parts)
+limited _ parts = bad_argument
+
+-- the pieces between the separators that a text is; any other value is a bad argument
+abbrev pub split_made : Option (List ℕ) → List ℕ → Value → Made
+split_made (Some t) us limit = limited limit (split_at t us)
+split_made None us limit = bad_argument
+
+-- what a member of a string makes of its first two arguments
+abbrev pub call_made : StringCall → List ℕ → Value → Value → Heap → Made
+call_made call.CharCodeAt us a b h = code_at us a
+call_made call.IndexOf us a b h = of_search (λ t n. place_made (place_in t us n)) (text_of a h) (place_or 0 us b)
+call_made call.Includes us a b h = of_search (λ t n. found_made (place_in t us n)) (text_of a h) (place_or 0 us b)
+call_made call.StartsWith us a b h = of_search (λ t n. bool_made (has_at t us n)) (text_of a h) (place_or 0 us b)
+call_made call.EndsWith us a b h =
+    of_search (λ t n. bool_made (ends_with nat_eq (take n us) t)) (text_of a h) (place_or (length us) us b)
+call_made call.Slice us a b h = sliced us a b
+call_made call.Split us a b h = split_made (text_of a h) us b
+call_made call.Trim us a b h = Text (trimmed us)
+
+-- a member of what is a string; that of any other value is a bad argument
+abbrev pub call_or : Option (List ℕ) → StringCall → List Value → Heap → Made
+call_or (Some us) c args h = call_made c us (argument args 0) (argument args 1) h
+call_or None c args h = bad_argument
+
+-- the heap after a call of a string's member, with its value or end
+abbrev pub string_call_of : StringCall → Value → List Value → Heap → Heap × Result Value OpEnd
+string_call_of c this args h = made_in (call_or (text_of this h) c args h) h
