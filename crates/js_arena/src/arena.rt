@@ -91,6 +91,14 @@ fn room_for(mut cells: &[Cell], total: u32, limit: u32) -> Option<u32>
     Some(taken)
 }
 
+/// How many cells there are, where a limit is not below it.
+fn number_of(cells: &Vec<Cell>, limit: u32) -> u32
+    requires { length cells.now.items ≤ limit }
+    ensures { result ≡ length cells.now.items }
+{
+    cells.len() as u32
+}
+
 fn push_cell(cells: &mut Vec<Cell>, cell: Cell) -> Result<(), NoMemory>
     ensures ok { OnOk result (cells.new.items ≡ cells.old.items ++ cell ∷ []) }
     ensures err { OnErr result (cells.new.items ≡ cells.old.items) }
@@ -312,7 +320,7 @@ impl Arena {
     pub fn count(&self) -> u32
         ensures { result ≡ length self.now.cells }
     {
-        self.cells.len() as u32
+        number_of(&self.cells, self.limit)
     }
 
     /// The units that may still be taken.

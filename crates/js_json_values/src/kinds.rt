@@ -1,0 +1,93 @@
+use js_arena::{Props, Value};
+use wd_base::{Seq, Stack, Units};
+
+/// What of a letter of a text was read: nothing, `\`, or `\u` with its digits so far.
+#[derive(Clone, Copy, Debug, PartialEq, Eq)]
+pub enum Inner {
+    Plain,
+    Escape,
+    Code0,
+    Code1(u16),
+    Code2(u16, u16),
+    Code3(u16, u16, u16),
+}
+
+/// Where the reading of units is: between two tokens, in a word or a number, or in a text.
+#[derive(Clone, Copy, Debug, PartialEq, Eq)]
+pub enum Within {
+    Between,
+    Bare,
+    Text(Inner),
+}
+
+/// A token of a JSON text (ECMA-404, section 4). A key is a text with the colon behind it.
+#[derive(Debug, Drop)]
+pub enum Token {
+    OpenArray,
+    CloseArray,
+    OpenObject,
+    CloseObject,
+    Comma,
+    Null,
+    Bool(bool),
+    /// A number by its value, and None where it is no safe integer.
+    Number(Option<i64>),
+    Text(Units),
+    Key(Units),
+}
+
+/// What was read of a text: its tokens, the last one first, and what the token that is being read
+/// has so far: the units of a word or a number, or what a text spells.
+#[derive(Drop)]
+pub struct Lexing {
+    pub tokens: Stack<Token>,
+    pub held: Units,
+    pub within: Within,
+}
+
+/// What is open.
+#[derive(Clone, Copy, Debug, PartialEq, Eq)]
+pub enum Level {
+    Array,
+    Object,
+}
+
+/// What comes next within what is open: a value, behind `[` an item, behind `{` a key, behind a
+/// comma of an object a key, or behind a value its end.
+#[derive(Clone, Copy, Debug, PartialEq, Eq)]
+pub enum Spot {
+    Value,
+    FirstItem,
+    FirstKey,
+    NextKey,
+    Done,
+}
+
+/// Where a list of tokens is: what is open, the innermost first, and what comes next.
+#[derive(Drop)]
+pub struct State {
+    pub levels: Stack<Level>,
+    pub spot: Spot,
+}
+
+/// An array or an object that is not closed yet: its items, or its properties with the key whose
+/// value comes next.
+#[derive(Drop)]
+pub enum Open {
+    Items(Seq<Value>),
+    Members(Props, Units),
+}
+
+/// Why a value has no text: it holds what is not convertible, or it holds itself.
+#[derive(Clone, Copy, Debug, PartialEq, Eq)]
+pub enum Refusal {
+    NotConvertible,
+    Loop,
+}
+
+/// What stands in an array or an object: a value, in an object with its key.
+#[derive(Drop)]
+pub struct Entry {
+    pub key: Option<Units>,
+    pub value: Value,
+}

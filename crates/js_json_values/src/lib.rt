@@ -1,0 +1,5 @@
+//! `JSON.parse` and `JSON.stringify` of scripts: values of a heap from a JSON text, and a JSON text
+//! from a value.
+#![tactic(auto)]
+
+mod kinds;
