@@ -59,12 +59,15 @@ abbrev pub read_fraction : Written → List ℕ → Option Written
 read_fraction n [] = Some n
 read_fraction n (u ∷ us) = if u == 46 then read_places n us else read_exponent n (u ∷ us)
 
+-- a number with a sign or none, and no digits but these before the point
+abbrev pub whole_number : Bool → List ℕ → Written
+whole_number minus ds = record { minus = minus; whole = ds; fraction = []; down = false; exponent = [] }
+
 -- a number without its sign
 abbrev pub read_unsigned : Bool → List ℕ → Option Written
 read_unsigned minus us =
-    let whole = front_digits us in
-    let n = record { minus = minus; whole = whole; fraction = []; down = false; exponent = [] } in
-    if is_whole whole then read_fraction n (behind_digits us) else None
+    if is_whole (front_digits us)
+    then read_fraction (whole_number minus (front_digits us)) (behind_digits us) else None
 
 -- the number that the units are, if they are one
 abbrev pub written_of : List ℕ → Option Written

@@ -1,5 +1,5 @@
 -- The tokens of a JSON text (ECMA-404, sections 4 and 9), read unit by unit.
-use Rattle.std.specs.Prelude.{ℕ, codes, Bool, ◌||◌, ◌==◌, List, [], ◌∷◌, ◌++◌, nat_lt, reverse, bytes_eq}
+use Rattle.std.specs.Prelude.{ℕ, codes, Bool, true, false, ◌||◌, ◌==◌, List, [], ◌∷◌, ◌++◌, nat_lt, reverse, bytes_eq}
 use Rattle.std.specs.Prelude.{Option, Some, None, is_some, option_map, if◌then◌else◌}
 use Rattle.js_json.specs.Units.{is_blank, is_hex, code_of, is_escape, escaped}
 use Rattle.js_json_values.specs.declared.kinds.Inner.{Inner}
