@@ -1,3 +1,4 @@
+pub mod Exponent
 pub mod Numbers
 pub mod Tokens
 pub mod Grammar

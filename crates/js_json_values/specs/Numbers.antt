@@ -5,14 +5,7 @@ use Rattle.std.specs.Option.{option_and_then}
 use Rattle.std.specs.List.{list_all, prefix_len}
 use Rattle.js_arena.specs.Keys.{spelled}
 use Rattle.js_json.specs.Units.{is_digit, is_mark}
-
--- A number as it is written: whether `-` stands before it, its digits before the point and behind it, and its exponent
-pub record Written : Type 0 where
-  pub minus : Bool
-  pub whole : List ℕ
-  pub fraction : List ℕ
-  pub down : Bool
-  pub exponent : List ℕ
+use Rattle.js_json_values.specs.declared.kinds.Written.{Written}
 
 -- one digit or more, and nothing else
 abbrev pub are_digits : List ℕ → Bool
@@ -28,7 +21,7 @@ is_whole (d ∷ ds) = list_all is_digit (d ∷ ds) && (not (d == 48) || (length 
 abbrev pub behind_digits : List ℕ → List ℕ
 behind_digits us = drop (prefix_len is_digit us) us
 
--- the digits at the front
+-- those of the list before the first unit that is none
 abbrev pub front_digits : List ℕ → List ℕ
 front_digits us = take (prefix_len is_digit us) us
 

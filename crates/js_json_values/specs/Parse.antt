@@ -9,11 +9,12 @@ use Rattle.js_arena.specs.declared.value.OpEnd.TheVariants.{Throw, Full}
 use Rattle.js_arena.specs.declared.value.Value.{Value}
 use Rattle.js_arena.specs.Heap.{Heap, fits, with_cells}
 use Rattle.js_arena.specs.Units.{all_units}
+use Rattle.js_json_values.specs.declared.kinds.Building.{Building}
 use Rattle.js_json_values.specs.declared.kinds.Token.{Token}
 use Rattle.js_json_values.specs.declared.kinds.Token.TheVariants as token
 use Rattle.js_json_values.specs.Tokens.{tokens_of}
 use Rattle.js_json_values.specs.Grammar.{is_one_value}
-use Rattle.js_json_values.specs.Values.{Building, built_of}
+use Rattle.js_json_values.specs.Values.{built_of}
 
 -- no safe integer
 abbrev pub number_fault : Option ℤ → Option OpEnd
@@ -33,7 +34,7 @@ fault_of _ = None
 -- what is thrown first, of numbers and keys in the order of the text
 abbrev pub first_fault : List Token → Option OpEnd
 first_fault [] = None
-first_fault (t ∷ ts) = option_or (first_fault ts) (fault_of t)
+first_fault (t ∷ ts) = option_or (fault_of t) (first_fault ts)
 
 -- the tokens, where nothing is thrown of one
 abbrev pub unless_fault : List Token → Option OpEnd → Result (List Token) OpEnd

@@ -9,7 +9,8 @@ use Rattle.js_json_values.specs.declared.kinds.Within.TheVariants as «at»
 use Rattle.js_json_values.specs.declared.kinds.Token.{Token}
 use Rattle.js_json_values.specs.declared.kinds.Token.TheVariants as token
 use Rattle.js_json_values.specs.declared.kinds.Lexing.{Lexing}
-use Rattle.js_json_values.specs.Numbers.{Written, written_of, value_of_number}
+use Rattle.js_json_values.specs.declared.kinds.Written.{Written}
+use Rattle.js_json_values.specs.Numbers.{written_of, value_of_number}
 
 -- what was read, of these parts
 abbrev pub lexing : List Token → List ℕ → Within → Lexing
@@ -30,13 +31,17 @@ structural u =
 abbrev pub number_token : Written → Token
 number_token n = token.Number (value_of_number n)
 
+-- the number that the units are
+abbrev pub number_from : List ℕ → Option Token
+number_from us = option_map number_token (written_of us)
+
 -- the token that units without quotes are: a word or a number
 abbrev pub bare_token : List ℕ → Option Token
 bare_token us =
     if bytes_eq us (codes "null") then Some token.Null
     else if bytes_eq us (codes "true") then Some (token.Bool true)
     else if bytes_eq us (codes "false") then Some (token.Bool false)
-    else option_map number_token (written_of us)
+    else number_from us
 
 -- a colon makes the text before it a key
 abbrev pub with_colon : List Token → Option Lexing

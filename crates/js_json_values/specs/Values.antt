@@ -8,14 +8,9 @@ use Rattle.js_arena.specs.declared.value.Cell.TheVariants as cell
 use Rattle.js_arena.specs.Props.{put_prop}
 use Rattle.js_json_values.specs.declared.kinds.Token.{Token}
 use Rattle.js_json_values.specs.declared.kinds.Token.TheVariants as token
+use Rattle.js_json_values.specs.declared.kinds.Building.{Building}
 use Rattle.js_json_values.specs.declared.kinds.Open.{Open}
 use Rattle.js_json_values.specs.declared.kinds.Open.TheVariants.{Items, Members}
-
--- The new cells so far, what is open, the innermost first, and the last value that stands in nothing that is open
-pub record Building : Type 0 where
-  pub cells : List Cell
-  pub opens : List Open
-  pub value : Value
 
 -- the building of these parts
 abbrev pub building : List Cell → List Open → Value → Building

@@ -1,4 +1,4 @@
-use js_arena::{Props, Value};
+use js_arena::{Cell, Props, Value};
 use wd_base::{Seq, Stack, Units};
 
 /// What of a letter of a text was read: nothing, `\`, or `\u` with its digits so far.
@@ -34,6 +34,17 @@ pub enum Token {
     Number(Option<i64>),
     Text(Units),
     Key(Units),
+}
+
+/// A number as it is written: whether `-` stands before it, its digits before the point and behind
+/// it, and those of its exponent, which is below zero or not.
+#[derive(Drop)]
+pub struct Written {
+    pub minus: bool,
+    pub whole: Units,
+    pub fraction: Units,
+    pub down: bool,
+    pub exponent: Units,
 }
 
 /// What was read of a text: its tokens, the last one first, and what the token that is being read
@@ -76,6 +87,15 @@ pub struct State {
 pub enum Open {
     Items(Seq<Value>),
     Members(Props, Units),
+}
+
+/// The new cells so far, what is open, the innermost first, and the last value that stands in
+/// nothing that is open.
+#[derive(Drop)]
+pub struct Building {
+    pub cells: Seq<Cell>,
+    pub opens: Stack<Open>,
+    pub value: Value,
 }
 
 /// Why a value has no text: it holds what is not convertible, or it holds itself.

@@ -3,3 +3,6 @@
 #![tactic(auto)]
 
 mod kinds;
+mod lexer;
+mod number;
+mod units;
