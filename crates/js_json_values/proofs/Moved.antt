@@ -1,16 +1,17 @@
 -- Numbers with a moved point, as they are computed.
-use Rattle.std.proofs.Common.{◌≡◌, ◌∙◌, ap, refl, sym, ℕ, zero, ◌+◌, ◌-◌, ◌*◌, ◌^◌, ◌≤◌, ◌<◌, Bool, true, false, List, [], ◌∷◌, length, inl, inr, subst}
+use Rattle.std.proofs.Common.{◌≡◌, ◌∙◌, ap, refl, sym, ℕ, zero, suc, ◌+◌, ◌-◌, ◌*◌, ◌^◌, ◌≤◌, ◌<◌, Bool, true, false, List, [], ◌∷◌, length, inl, inr, subst}
 use Rattle.std.proofs.Common.{arith, take, drop}
 use Rattle.std.specs.Prelude.{fold, nat_le, min, Option, Some, None, if◌then◌else◌}
 use Rattle.std.proofs.Math.Nat.{pow-le-pow_right, one-le-pow, le_trans, mul-le-mul_left, mul-le-mul_right}
 use Rattle.std.proofs.lemmas.Bool.{cases_lt}
 use Rattle.std.proofs.lemmas.Bool.Decides.{nat_tests}
-use Rattle.std.proofs.lemmas.List.{take_min, drop_min}
+use Rattle.std.proofs.lemmas.List.{take_min, drop_min, take_all, drop_all, length-append}
 use Rattle.js_arena.specs.Keys.{spelled}
 use Rattle.js_ops.specs.Capped.{cap, capped}
 use Rattle.js_ops.proofs.Digits.{capped_is}
-use Rattle.js_json_values.specs.Exponent.{exponent_step, exponent_within}
-use Rattle.js_json_values.specs.Numbers.{within, pointed, are_zeros}
+use Rattle.js_json_values.specs.declared.kinds.Written.{Written}
+use Rattle.js_json_values.specs.Exponent.{exponent_step, exponent_within, point_within}
+use Rattle.js_json_values.specs.Numbers.{within, pointed, are_zeros, digits_of, point_of}
 
 pub power_small : (k : ℕ) → k ≤ 15 → 10 ^ k ≤ 10 ^ 15
 power_small k h = pow-le-pow_right (omega arith) h
@@ -77,3 +78,53 @@ pub pointed_is : (ds : List ℕ) (p : ℕ)
     ≡ pointed ds p
 pointed_is ds p =
     taken _ _ _ _ (p - length ds) (ap are_zeros (drop_min p ds)) (take_min p ds)
+
+step_min : (n c : ℕ) → exponent_step (min n 36893488147419103232) c ≡ min (n * 10 + (c - 48)) 36893488147419103232
+step_min n c = omega arith
+
+exponent_from : (n : ℕ) (ds : List ℕ)
+    → fold exponent_step (min n 36893488147419103232) ds
+    ≡ min (fold (λ m c. m * 10 + (c - 48)) n ds) 36893488147419103232
+exponent_from n [] = refl
+exponent_from n (d ∷ ds) = ap (λ (m : ℕ). fold exponent_step m ds) (step_min n d) ∙ exponent_from (n * 10 + (d - 48)) ds
+
+exponent_is : (ds : List ℕ) → exponent_within ds ≡ min (spelled ds) 36893488147419103232
+exponent_is ds = exponent_from 0 ds
+
+far_within : (n z y : ℕ) → 16 ≤ z → 16 ≤ y → within n z ≡ within n y
+far_within zero z y h l = zero_within z ∙ sym (zero_within y)
+far_within (suc n) z y h l = many_zeros (suc n) z (omega arith) h ∙ sym (many_zeros (suc n) y (omega arith) l)
+
+behind_all : (ds : List ℕ) (p : ℕ) → length ds ≤ p → pointed ds p ≡ within (spelled ds) (p - length ds)
+behind_all ds p h =
+    ap (λ (back : List ℕ). if are_zeros back then within (spelled (take p ds)) (p - length ds) else None) (drop_all p ds h)
+    ∙ ap (λ (front : List ℕ). within (spelled front) (p - length ds)) (take_all p ds h)
+
+far : (ds : List ℕ) (p q : ℕ) → length ds + 16 ≤ p → length ds + 16 ≤ q → pointed ds p ≡ pointed ds q
+far ds p q h l =
+    behind_all ds p (omega (arith, h))
+    ∙ far_within (spelled ds) (p - length ds) (q - length ds) (omega (arith, h)) (omega (arith, l))
+    ∙ sym (behind_all ds q (omega (arith, l)))
+
+raised : (ds : List ℕ) (w e : ℕ) → length ds < 2 ^ 64
+    → pointed ds (w + min e 36893488147419103232) ≡ pointed ds (w + e)
+raised ds w e h = elim (cases_lt e 36893488147419103232) [
+  | inl l ↦ ap (λ (k : ℕ). pointed ds (w + k)) (omega (arith, l))
+  | inr l ↦ far ds (w + min e 36893488147419103232) (w + e) (omega (arith, h, l)) (omega (arith, h, l))
+]
+
+lowered : (ds : List ℕ) (w e : ℕ) → w < 2 ^ 64
+    → pointed ds (w - min e 36893488147419103232) ≡ pointed ds (w - e)
+lowered ds w e h = ap (pointed ds) (omega (arith, h))
+
+moved_at : (down : Bool) (ds : List ℕ) (w x e : ℕ) → x ≡ min e 36893488147419103232 → w < 2 ^ 64 → length ds < 2 ^ 64
+    → pointed ds (if down then w - x else w + x) ≡ pointed ds (if down then w - e else w + e)
+moved_at true ds w x e is h l = ap (λ (k : ℕ). pointed ds (w - k)) is ∙ lowered ds w e h
+moved_at false ds w x e is h l = ap (λ (k : ℕ). pointed ds (w + k)) is ∙ raised ds w e l
+
+pub moved : (n : Written) → length (digits_of n) < 2 ^ 64
+    → pointed (digits_of n) (point_within n) ≡ pointed (digits_of n) (point_of n)
+moved n h =
+    let len = length-append n.whole n.fraction in
+    moved_at n.down (digits_of n) (length n.whole) (exponent_within n.exponent) (spelled n.exponent)
+        (exponent_is n.exponent) (omega (arith, h, len)) h

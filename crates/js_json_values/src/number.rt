@@ -179,14 +179,21 @@ fn with_digit(number: u64, unit: u16) -> u64
 }
 
 /// The number that digits spell, and 2 ^ 53 where it is that or more.
+fn spelled_digits(digits: &[u16]) -> u64
+    ensures { result ≡ capped digits.now }
+{
+    digits
+        .iter()
+        .fold(0, |number, unit| with_digit(number, *unit))
+}
+
+/// The number that digits spell, at most 2 ^ 53.
 #[tactic(auto, using(crate::proofs::Moved::capped_most))]
 fn spelled_within(digits: &[u16]) -> u64
     ensures value { result ≡ capped digits.now }
     ensures most { result ≤ 9007199254740992 }
 {
-    digits
-        .iter()
-        .fold(0, |number, unit| with_digit(number, *unit))
+    spelled_digits(digits)
 }
 
 /// The exponent that one more digit makes, and 2 ^ 65 where it is that or more.
@@ -201,14 +208,21 @@ fn with_exponent_digit(number: u128, unit: u16) -> u128
 }
 
 /// The exponent that digits spell, and 2 ^ 65 where it is that or more.
+fn exponent_digits(digits: &[u16]) -> u128
+    ensures { result ≡ exponent_within digits.now }
+{
+    digits
+        .iter()
+        .fold(0, |number, unit| with_exponent_digit(number, *unit))
+}
+
+/// The exponent that digits spell, at most 2 ^ 65.
 #[tactic(auto, using(crate::proofs::Moved::exponent_most))]
 fn exponent_within(digits: &[u16]) -> u128
     ensures value { result ≡ exponent_within digits.now }
     ensures most { result ≤ 36893488147419103232 }
 {
-    digits
-        .iter()
-        .fold(0, |number, unit| with_exponent_digit(number, *unit))
+    exponent_digits(digits)
 }
 
 /// How many digits stand before the point, once the exponent has moved it.
@@ -235,7 +249,8 @@ fn are_zeros(digits: &[u16]) -> bool
 fn times_power(number: u64, zeros: u32) -> Option<u64>
     requires number { number ≤ 9007199254740992 }
     requires zeros { zeros ≤ 15 }
-    ensures { result ≡ spec.within number zeros }
+    ensures value { result ≡ spec.within number zeros }
+    ensures most { IfSome result (λ n. n ≤ 9007199254740991) }
 {
     let value = number as u128 * 10u128.pow(zeros);
     if value <= 9007199254740991 {
@@ -249,7 +264,8 @@ fn times_power(number: u64, zeros: u32) -> Option<u64>
 #[tactic(auto, using(crate::proofs::Moved::zero_within, crate::proofs::Moved::many_zeros))]
 fn within(number: u64, zeros: u128) -> Option<u64>
     requires { number ≤ 9007199254740992 }
-    ensures { result ≡ spec.within number zeros }
+    ensures value { result ≡ spec.within number zeros }
+    ensures most { IfSome result (λ n. n ≤ 9007199254740991) }
 {
     if number == 0 {
         Some(0)
@@ -263,7 +279,9 @@ fn within(number: u64, zeros: u128) -> Option<u64>
 /// The digits before the point, where those behind it are zeros.
 #[tactic(auto, using(crate::proofs::Moved::pointed_is))]
 fn pointed(digits: &[u16], point: u128) -> Option<u64>
-    ensures { result ≡ spec.pointed digits.now point }
+    ensures value { result ≡ spec.pointed digits.now point }
+    ensures most { IfSome result (λ n. n ≤ 9007199254740991) }
+    ensures short { length digits.now < 2 ^ 64 }
 {
     let length = digits.len() as u128;
     let (front, behind) = digits.split_at(point.min(length) as usize);
@@ -285,6 +303,7 @@ fn signed(minus: bool, number: Option<u64>) -> Option<i64>
 }
 
 /// The value of a number, where it is a safe integer.
+#[tactic(auto, using(crate::proofs::Moved::moved))]
 pub fn value_of_number(number: Written) -> Result<Option<i64>, NoMemory>
     ensures { IfOk result (λ value. value ≡ spec.value_of_number number) }
 {

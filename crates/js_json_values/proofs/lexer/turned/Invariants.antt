@@ -2,8 +2,8 @@ use Rattle.std.proofs.Common.{◌≡◌, ◌++◌, length}
 use Rattle.std.specs.Prelude.{reverse}
 use Rattle.js_json_values.proofs.lexer.turned.Given as goal
 
-abbrev pub invariant-loop-rest : goal.invariant-loop-rest
-invariant-loop-rest l = reverse l.rest ++ l.done ≡ reverse l.initial.rest
+abbrev pub invariant-loop-token : goal.invariant-loop-token
+invariant-loop-token l = reverse l.rest ++ l.done ≡ reverse l.initial.rest
 
-abbrev pub decreases-loop-rest : goal.decreases-loop-rest
-decreases-loop-rest l = length l.rest
+abbrev pub decreases-loop-token : goal.decreases-loop-token
+decreases-loop-token l = length l.rest
