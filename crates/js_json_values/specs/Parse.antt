@@ -36,33 +36,38 @@ abbrev pub first_fault : List Token → Option OpEnd
 first_fault [] = None
 first_fault (t ∷ ts) = option_or (fault_of t) (first_fault ts)
 
--- the tokens, where nothing is thrown of one
-abbrev pub unless_fault : List Token → Option OpEnd → Result (List Token) OpEnd
-unless_fault ts None = Ok ts
-unless_fault ts (Some fault) = Err fault
+-- what was built, where nothing is thrown
+abbrev pub unless_fault : Building → Option OpEnd → Result Building OpEnd
+unless_fault b None = Ok b
+unless_fault b (Some fault) = Err fault
 
 -- no JSON text
 abbrev pub bad_json : OpEnd
 bad_json = Throw SyntaxError msg.BadJson
 
--- the grammar is looked at before numbers and keys
-abbrev pub judged : Option (List Token) → Result (List Token) OpEnd
-judged None = Err bad_json
-judged (Some ts) = if is_one_value ts then unless_fault ts (first_fault ts) else Err bad_json
+-- the new cells of these tokens, numbered from the first one, with the value, or what is thrown: the grammar is
+-- looked at before numbers and keys
+abbrev pub judged : ℕ → List Token → Result Building OpEnd
+judged first ts = if is_one_value ts then unless_fault (built_of first ts) (first_fault ts) else Err bad_json
 
--- the tokens of a text of which nothing is thrown, or what is thrown
-abbrev pub read_of : List ℕ → Result (List Token) OpEnd
-read_of us = judged (tokens_of us)
+-- a text that has no tokens is no JSON text
+abbrev pub judged_all : ℕ → Option (List Token) → Result Building OpEnd
+judged_all first (Some ts) = judged first ts
+judged_all first None = Err bad_json
+
+-- the new cells of a text, numbered from the first one, with its value, or what is thrown
+abbrev pub read_of : ℕ → List ℕ → Result Building OpEnd
+read_of first us = judged_all first (tokens_of us)
 
 -- the new cells behind the heap's own, where they fit
 abbrev pub kept : Building → Heap → Heap × Result Value OpEnd
 kept b h = let n = all_units b.cells in if fits h n then (with_cells b.cells n h, Ok b.value) else (h, Err Full)
 
--- the heap with the value of the tokens
-abbrev pub made : Result (List Token) OpEnd → Heap → Heap × Result Value OpEnd
-made (Ok ts) h = kept (built_of (length h.cells) ts) h
-made (Err thrown) h = (h, Err thrown)
+-- the heap with what was read
+abbrev pub kept_or : Result Building OpEnd → Heap → Heap × Result Value OpEnd
+kept_or (Ok b) h = kept b h
+kept_or (Err thrown) h = (h, Err thrown)
 
 -- the heap after `JSON.parse` of these units, with the value or why there is none
 abbrev pub parse_of : List ℕ → Heap → Heap × Result Value OpEnd
-parse_of us h = made (read_of us) h
+parse_of us h = kept_or (read_of (length h.cells) us) h

@@ -2,7 +2,10 @@
 //! from a value.
 #![tactic(auto)]
 
+mod build;
+mod grammar;
 mod kinds;
 mod lexer;
 mod number;
+mod parse;
 mod units;
