@@ -6,3 +6,5 @@ pub mod Values
 pub mod Parse
 pub mod Quote
 pub mod Text
+pub mod Walk
+pub mod Outcome

@@ -12,6 +12,7 @@ use Rattle.js_arena.specs.declared.value.OpEnd.{OpEnd}
 use Rattle.js_arena.specs.declared.value.OpEnd.TheVariants.{Throw}
 use Rattle.js_arena.specs.declared.value.Value.{Value}
 use Rattle.js_arena.specs.declared.value.Value.TheVariants as value
+use Rattle.js_arena.specs.declared.value.CellNo.{CellNo}
 use Rattle.js_arena.specs.declared.value.Cell.{Cell}
 use Rattle.js_arena.specs.declared.value.Cell.TheVariants as cell
 use Rattle.js_arena.specs.Heap.{Heap, cell_at, text_of}
@@ -20,6 +21,8 @@ use Rattle.js_arena.specs.Props.{Properties, get_prop}
 use Rattle.js_ops.specs.Ops.{text_in}
 use Rattle.js_json_values.specs.declared.kinds.Entry.{Entry}
 use Rattle.js_json_values.specs.declared.kinds.Refusal.{Refusal}
+use Rattle.js_json_values.specs.declared.kinds.Shape.{Shape}
+use Rattle.js_json_values.specs.declared.kinds.Shape.TheVariants as shape
 use Rattle.js_json_values.specs.declared.kinds.Refusal.TheVariants.{NotConvertible, Loop}
 use Rattle.js_json_values.specs.Quote.{quoted}
 
@@ -85,46 +88,65 @@ abbrev pub between : ℕ → ℕ → Result (List ℕ) Refusal → Said
 between first last (Ok t) = says (first ∷ (t ++ last ∷ []))
 between first last (Err why) = Err why
 
--- an object with its own properties in the order of its keys, or an array with its items; a function is left out,
--- and an Error object has no property that is written
-abbrev pub cell_said : (Value → Said) → Option Cell → Said
-cell_said inner (Some (cell.Object props)) =
-    between 123 125 (entries_text inner false (map (member props) (own_keys props)))
-cell_said inner (Some (cell.Array items)) = between 91 93 (entries_text inner false (map item items))
-cell_said inner (Some (cell.Function n)) = left_out
-cell_said inner (Some (cell.Error kind message)) = says (codes "{}")
-cell_said inner _ = Err NotConvertible
+-- what stands in a cell: an object's own properties in the order of their keys, or an array's items
+abbrev pub entries_of : Option Cell → List Entry
+entries_of (Some (cell.Object props)) = map (member props) (own_keys props)
+entries_of (Some (cell.Array items)) = map item items
+entries_of _ = []
+
+-- the entries of the cell under this number
+abbrev pub entries_at : CellNo → Heap → List Entry
+entries_at at h = entries_of (cell_at h at)
+
+-- a text
+abbrev pub flat : List ℕ → Shape
+flat t = shape.Flat (Some t)
+
+-- a function is left out, and an Error object is one without properties that are written
+abbrev pub cell_shape : CellNo → Option Cell → Shape
+cell_shape at (Some (cell.Object props)) = shape.Object at
+cell_shape at (Some (cell.Array items)) = shape.Array at
+cell_shape at (Some (cell.Function n)) = shape.Flat None
+cell_shape at (Some (cell.Error kind message)) = flat (codes "{}")
+cell_shape at _ = shape.NotConvertible
 
 -- built-in functions are left out; `console` and `JSON` are objects without properties that are written
-abbrev pub native_said : Native → Said
-native_said (NameSpace space.Console) = says (codes "{}")
-native_said (NameSpace space.Json) = says (codes "{}")
-native_said _ = left_out
+abbrev pub native_shape : Native → Shape
+native_shape (NameSpace space.Console) = flat (codes "{}")
+native_shape (NameSpace space.Json) = flat (codes "{}")
+native_shape _ = shape.Flat None
 
 -- a value that is no string
-abbrev pub plain_said : (Value → Said) → Value → Heap → Said
-plain_said inner value.Undefined h = left_out
-plain_said inner value.Null h = says (codes "null")
-plain_said inner (value.Bool true) h = says (codes "true")
-plain_said inner (value.Bool false) h = says (codes "false")
-plain_said inner (value.Number n) h = says (signed_decimal n)
-plain_said inner (value.Native n) h = native_said n
-plain_said inner (value.Cell at) h = cell_said inner (cell_at h at)
-plain_said inner _ h = Err NotConvertible
+abbrev pub plain_shape : Value → Heap → Shape
+plain_shape value.Undefined h = shape.Flat None
+plain_shape value.Null h = flat (codes "null")
+plain_shape (value.Bool true) h = flat (codes "true")
+plain_shape (value.Bool false) h = flat (codes "false")
+plain_shape (value.Number n) h = flat (signed_decimal n)
+plain_shape (value.Native n) h = native_shape n
+plain_shape (value.Cell at) h = cell_shape at (cell_at h at)
+plain_shape _ h = shape.NotConvertible
 
 -- a string in quotes, and else what is given for other values
-abbrev pub said_or : Option (List ℕ) → Said → Said
-said_or (Some t) other = says (quoted t)
-said_or None other = other
+abbrev pub shape_or : Option (List ℕ) → Shape → Shape
+shape_or (Some t) other = flat (quoted t)
+shape_or None other = other
 
--- a value, with this text for each value that it holds (SerializeJSONProperty)
-abbrev pub said_by : (Value → Said) → Value → Heap → Said
-said_by inner v h = said_or (text_of v h) (plain_said inner v h)
+-- what a value is
+abbrev pub shape_of : Value → Heap → Shape
+shape_of v h = shape_or (text_of v h) (plain_shape v h)
 
--- a value of so many levels at most; one of more is a loop
-abbrev pub said : ℕ → Value → Heap → Said
-said zero v h = Err Loop
-said (suc n) v h = said_by (λ w. said n w h) v h
+-- the text by what a value is, with one for each value that it holds
+abbrev pub shape_said : (Value → Said) → Heap → Shape → Said
+shape_said inner h (shape.Flat t) = Ok t
+shape_said inner h (shape.Array at) = between 91 93 (entries_text inner false (entries_at at h))
+shape_said inner h (shape.Object at) = between 123 125 (entries_text inner false (entries_at at h))
+shape_said inner h shape.NotConvertible = Err NotConvertible
+
+-- the text of a value of so many levels at most (SerializeJSONProperty); one of more is a loop
+abbrev pub said : ℕ → Heap → Value → Said
+said zero h v = Err Loop
+said (suc n) h v = shape_said (said n h) h (shape_of v h)
 
 -- what is thrown of a refusal
 abbrev pub refused : Refusal → OpEnd
@@ -140,4 +162,4 @@ said_in (Err why) h = (h, Err (refused why))
 -- the heap after `JSON.stringify` of a value, with the string or why there is none: a value of more levels than there
 -- are cells, and one for what they hold, holds itself
 abbrev pub stringify_of : Value → Heap → Heap × Result Value OpEnd
-stringify_of v h = said_in (said (suc (length h.cells)) v h) h
+stringify_of v h = said_in (said (suc (length h.cells)) h v) h

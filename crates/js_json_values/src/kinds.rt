@@ -1,4 +1,4 @@
-use js_arena::{Cell, Props, Value};
+use js_arena::{Cell, CellNo, Props, Value};
 use wd_base::{Seq, Stack, Units};
 
 /// What of a letter of a text was read: nothing, `\`, or `\u` with its digits so far.
@@ -110,4 +110,66 @@ pub enum Refusal {
 pub struct Entry {
     pub key: Option<Units>,
     pub value: Value,
+}
+
+/// What a value is to `JSON.stringify`: a text, or nothing where it is left out, the array or the
+/// object in a cell, or not convertible.
+#[derive(Drop)]
+pub enum Shape {
+    Flat(Option<Units>),
+    Array(CellNo),
+    Object(CellNo),
+    NotConvertible,
+}
+
+/// What is known of a cell: nothing, that it is being written, or where its text stands.
+#[derive(Clone, Copy, Debug, PartialEq, Eq)]
+pub enum Mark {
+    Unseen,
+    Open,
+    Done(usize, usize),
+}
+
+/// An array or an object that is being written: its cell, whether an entry was written, the entries
+/// that are left, and where its text begins.
+#[derive(Drop)]
+pub struct Frame {
+    pub no: CellNo,
+    pub array: bool,
+    pub more: bool,
+    pub rest: Stack<Entry>,
+    pub from: usize,
+}
+
+/// A text as far as it was written, and whether it is longer than there is room for: then it does
+/// not grow any more.
+#[derive(Drop)]
+pub struct Page {
+    pub text: Units,
+    pub over: bool,
+}
+
+/// What was written, what is known of each cell, and what is being written, the innermost first.
+#[derive(Drop)]
+pub struct Walk {
+    pub page: Page,
+    pub marks: Seq<Mark>,
+    pub frames: Stack<Frame>,
+}
+
+/// What a step of the writing comes to.
+#[derive(Drop)]
+pub enum Step {
+    Goes(Walk),
+    Refuses(Refusal),
+    Ended(Page),
+}
+
+/// What a value's text came to. `Over` stands for one that is longer than there is room for.
+#[derive(Drop)]
+pub enum Outcome {
+    Text(Units),
+    LeftOut,
+    Over,
+    Refused(Refusal),
 }

@@ -8,4 +8,5 @@ mod kinds;
 mod lexer;
 mod number;
 mod parse;
+mod quote;
 mod units;
