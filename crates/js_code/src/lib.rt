@@ -1,0 +1,9 @@
+//! A script as the nodes that it is run by.
+#![tactic(auto)]
+
+mod code;
+
+pub use code::{
+    BindKind, Binding, Bindings, Call, Change, Code, Form, FunctionKind, Leaf, Listing, Loop, Make,
+    Member, Node, Operator, Place, Statement, Try, Write,
+};
