@@ -5,6 +5,7 @@ use Rattle.std.specs.List.{position_or_len}
 use Rattle.js_code.specs.declared.code.Binding.{Binding}
 use Rattle.js_code.specs.declared.code.Form.{Form}
 use Rattle.js_code.specs.declared.code.Form.TheVariants.{List as ListForm}
+use Rattle.js_code.specs.declared.code.Listing.{Listing}
 use Rattle.js_code.specs.declared.code.Listing.TheVariants.{End}
 use Rattle.js_code.specs.declared.code.Node.{Node, out-Node, roll-Node}
 use Rattle.js_code.specs.Forms.{form_over, binding_over}
@@ -59,3 +60,12 @@ text_no x texts = position_or_len (bytes_eq x) texts
 -- a code as a form over what its numbers stand for
 abbrev pub layer : Table → Code → NodeForm
 layer t c = form_over (text_at t) (scope_at t) (node_at t) c
+
+-- the list that a form is, and the empty one for another form
+abbrev pub list_in : NodeForm → Listing (List ℕ) Node
+list_in (ListForm l) = l
+list_in _ = End
+
+-- the list that a node is
+abbrev pub listing : Node → Listing (List ℕ) Node
+listing n = list_in (look n)

@@ -2,7 +2,9 @@
 #![tactic(auto)]
 
 mod code;
+mod probe;
 
+pub use probe::look_at_all;
 pub use code::{
     BindKind, Binding, Bindings, Call, Change, Code, Form, FunctionKind, Leaf, Listing, Loop, Make,
     Member, Node, Operator, Place, Statement, Try, Write,
