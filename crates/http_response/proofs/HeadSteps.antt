@@ -27,8 +27,8 @@ use Rattle.http_response.specs.declared.reach.Told.TheVariants as told
 use Rattle.http_response.specs.declared.find.Found.{Found}
 use Rattle.http_response.specs.declared.find.Found.TheVariants as found
 use Rattle.http_response.specs.declared.head.HeadSeen.TheVariants as head_seen
-use Rattle.http_response.specs.Head.{ReadsHead, RefusesHead, window, front, pairs_of, reach_of, field_reach, told_by, told_of}
-use Rattle.http_response.specs.Response.{RefusesTold, kept_fields, reply_of}
+use Rattle.http_response.specs.Head.{ReadsHead, window, front, pairs_of, reach_of, field_reach, told_by, told_of}
+use Rattle.http_response.specs.Response.{kept_fields}
 use Rattle.http_response.specs.Steps.{HasManyFields, IsFoundIn, BeginsWith, Accepts, IsHead}
 use Rattle.http_response.proofs.HeadLaws.{may_front, none_front}
 

@@ -1,10 +1,9 @@
 -- The response in bytes is read in one way alone, and a refusal stays one whatever comes behind.
-use Rattle.std.proofs.Common.{◌≡◌, ℕ, ◌+◌, ◌<◌, ◌≤◌, inl, inr, Bool, true, false, List, [], ◌∷◌, ◌++◌, length, refl, sym, ap, ap₂, ◌∙◌, subst, arith, append_assoc, length-append}
+use Rattle.std.proofs.Common.{◌≡◌, ℕ, ◌+◌, inl, inr, Bool, List, [], ◌∷◌, ◌++◌, length, refl, sym, ap, ap₂, ◌∙◌, subst, arith, length-append}
 use Rattle.std.proofs.lemmas.Bool.{false≢true}
 use Rattle.httparse.specs.Grammar.{ResponseHead, print_response}
 use Rattle.http_message.specs.declared.extent.Refusal.{Refusal}
 use Rattle.http_message.specs.declared.extent.Refusal.TheVariants as refusal
-use Rattle.http_message.specs.Chunks.{ReadsChunked, RefusesChunked}
 use Rattle.http_message.proofs.ChunkLaws.{chunked_unique, chunked_refused, chunked_refused_more, chunked_refused_unique}
 use Rattle.wd_base.specs.declared.http.Reply.{Reply}
 use Rattle.http_response.specs.declared.reach.Reach.{Reach}
@@ -13,8 +12,8 @@ use Rattle.http_response.specs.declared.reach.Told.{Told}
 use Rattle.http_response.specs.declared.reach.Told.TheVariants as told
 use Rattle.http_response.specs.declared.reader.Heard.{Heard}
 use Rattle.http_response.specs.declared.reader.Heard.TheVariants as heard
-use Rattle.http_response.specs.Head.{ReadsHead, RefusesHead, ReadsTelling, Skips, HasSkipped, told_of}
-use Rattle.http_response.specs.Response.{ReadsBody, RefusesBody, reply_of, HoldsNext, RefusesTold, RefusesBehind, RefusesNext, Holds, Refuses, IsUnfinished, Hears}
+use Rattle.http_response.specs.Head.{ReadsTelling, Skips, HasSkipped}
+use Rattle.http_response.specs.Response.{ReadsBody, RefusesBody, reply_of, HoldsNext, RefusesBehind, RefusesNext, Holds, Refuses, Hears}
 use Rattle.http_response.proofs.HeadLaws.{head_unique, head_refused, refused_head_more, refused_head_unique, head_more, told_unique, told_more, told_refused, untold_unique}
 
 -- ---- bodies

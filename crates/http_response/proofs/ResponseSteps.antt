@@ -7,23 +7,22 @@ use Rattle.http_message.specs.declared.chunks.ChunkReader.{ChunkReader}
 use Rattle.http_message.specs.declared.chunks.Chunked.TheVariants as chunked
 use Rattle.http_message.specs.declared.extent.Refusal.{Refusal}
 use Rattle.http_message.specs.declared.extent.Refusal.TheVariants as refusal
-use Rattle.http_message.specs.Limits.{max_head, max_body}
+use Rattle.http_message.specs.Limits.{max_body}
 use Rattle.http_message.specs.Steps.{IsReading, ShowsChunked}
 use Rattle.http_message.proofs.ChunkSteps.{reading_nothing, reading_more}
 use Rattle.wd_base.specs.declared.http.Reply.{Reply}
 use Rattle.http_response.specs.declared.reach.Reach.{Reach}
 use Rattle.http_response.specs.declared.reach.Reach.TheVariants as reach
 use Rattle.http_response.specs.declared.reach.Told.TheVariants as told
-use Rattle.http_response.specs.declared.head.HeadSeen.{HeadSeen}
 use Rattle.http_response.specs.declared.head.HeadSeen.TheVariants as head_seen
 use Rattle.http_response.specs.declared.response.Begun.{Begun}
 use Rattle.http_response.specs.declared.response.Progress.{Progress}
 use Rattle.http_response.specs.declared.response.Progress.TheVariants as progress
 use Rattle.http_response.specs.Head.{ReadsTelling, Skips, HasSkipped}
-use Rattle.http_response.specs.Response.{ReadsBody, RefusesBody, reply_of, Holds, Refuses, RefusesNext, IsUnfinished}
+use Rattle.http_response.specs.Response.{ReadsBody, RefusesBody, Holds, Refuses, RefusesNext, IsUnfinished}
 use Rattle.http_response.specs.Steps.{HasNoHead, BeginsWith, IsHead, IsSkipped, IsBegun, HasBegun, IsProgress}
 use Rattle.http_response.proofs.HeadLaws.{head_long, head_refused, told_unique, told_more, told_refused}
-use Rattle.http_response.proofs.ResponseLaws.{Stops, skipped_more, last_is, last_stops, holds_at, refuses_at, body_at, next_refused}
+use Rattle.http_response.proofs.ResponseLaws.{Stops, skipped_more, last_is, last_stops, holds_at, refuses_at, body_at}
 
 -- ---- interim heads
 

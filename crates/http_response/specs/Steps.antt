@@ -6,7 +6,6 @@ use Rattle.httparse.specs.declared.spans.HeaderSpan.{HeaderSpan}
 use Rattle.http_message.specs.declared.extent.Refusal.{Refusal}
 use Rattle.http_message.specs.Limits.{max_head, max_fields}
 use Rattle.http_message.specs.Steps.{IsReading}
-use Rattle.http_response.specs.declared.reach.Reach.{Reach}
 use Rattle.http_response.specs.declared.reach.Told.{Told}
 use Rattle.http_response.specs.declared.reach.Told.TheVariants as told
 use Rattle.http_response.specs.declared.find.Found.{Found}

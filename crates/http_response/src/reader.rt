@@ -86,7 +86,13 @@ impl Response {
         let old = self.bytes.len();
         let progress = mem::replace(&mut self.progress, Progress::Heads(0));
         self.bytes.extend_from_slice(piece)?;
-        let heard = match read_response(alloc, self.bytes.as_slice(), ended, self.to_head, progress) {
+        let heard = match read_response(
+            alloc,
+            self.bytes.as_slice(),
+            ended,
+            self.to_head,
+            progress,
+        ) {
             Err(NoMemory) => {
                 self.bytes.truncate(old);
                 return Err(NoMemory);
