@@ -49,7 +49,7 @@ Starts world (Refused script) = FirstRefused world.services (Some script)
 
 -- the names of the Workers among the targets of the service of this number
 abbrev pub targets_at : List Service → ServiceNo → List (List ℕ)
-targets_at services no = workers_in services (worker_at (slice_get services no.0))
+targets_at services number = workers_in services (worker_at (slice_get services number.0))
 
 -- These are the first isolates of the Workers among the first n services, and the first script of those
 -- behind them that is refused is the first of all, and so where there is none.

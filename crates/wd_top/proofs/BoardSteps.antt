@@ -78,7 +78,7 @@ run_push seat m world es e s r is b next here = record {
 -- THE ENTRIES OF A REQUEST
 
 abbrev pub arrive_entry : Seat → Req → List ℕ → LinkNo → ReqData → Entry
-arrive_entry seat q service link request = Arrive seat seat q service (Outside link) 1000 request
+arrive_entry seat q service link request = Arrive seat q service (Outside link) 1000 request
 
 -- the seat is itself
 here_is : (seat : Seat) (b : Bool) → (nat_eq seat.0 seat.0 && b) ≡ b
@@ -117,9 +117,10 @@ pub asks_begun : (x : NoMemory) (seat : Seat) (q : Req) (service : List ℕ) (li
     (j : List Entry)
     → Answers seat link service request j (two_entries j seat q service link request) (Err x)
 asks_begun x seat q service link request j =
-    let j1 = j ++ arrive_entry seat q service link request ∷ [] in
-    ((λ n ne. begun_same n seat q j1 ∙ arrived_others seat q service link request j n ne),
-        inr (q.0, begun_same link.0 seat q j1 ∙ arrived_adds seat q service link request j))
+    let j1 = j ++ arrive_entry seat q service link request ∷ [] in (
+      (λ n ne. begun_same n seat q j1 ∙ arrived_others seat q service link request j n ne),
+      inr (q.0, begun_same link.0 seat q j1 ∙ arrived_adds seat q service link request j),
+    )
 
 -- the request stands with the reply of its turn
 pub answers : (seat : Seat) (q : Req) (service : List ℕ) (link : LinkNo) (request : ReqData) (j : List Entry)
@@ -128,29 +129,35 @@ pub answers : (seat : Seat) (q : Req) (service : List ℕ) (link : LinkNo) (requ
     → Answers seat link service request j (three_entries j seat q service link request out) (Ok out.reply)
 answers seat q service link request j out numbered next =
     elim out.reply as (λ o. ((n : ℕ)
-    → talk seat.0 n j3 ≡ record { rows = with_reply_if q.0 o (talk seat.0 n j1).rows;
-        orderly = (talk seat.0 n j1).orderly })
+    → talk seat.0 n j3 ≡ record {
+      rows = with_reply_if q.0 o (talk seat.0 n j1).rows;
+      orderly = (talk seat.0 n j1).orderly;
+    })
     → Answers seat link service request j j3 (Ok o)) [
-  | None ↦ λ t. ((λ n ne. t n ∙ arrived_others seat q service link request j n ne),
-      (q.0, t link.0 ∙ arrived_adds seat q service link request j))
-  | Some reply ↦ λ t. (
-    (λ n ne. t n ∙ ap (λ k. record { rows = with_reply q.0 reply k.rows; orderly = k.orderly })
-        (arrived_others seat q service link request j n ne)
-        ∙ ap (λ rows. record { rows = rows; orderly = (talk seat.0 n j).orderly })
+      | None ↦ λ t. (
+        (λ n ne. t n ∙ arrived_others seat q service link request j n ne),
+        (q.0, t link.0 ∙ arrived_adds seat q service link request j),
+      )
+      | Some reply ↦ λ t. (
+        (λ n ne. t n ∙ ap (λ k. record { rows = with_reply q.0 reply k.rows; orderly = k.orderly })
+            (arrived_others seat q service link request j n ne)
+            ∙ ap (λ rows. record { rows = rows; orderly = (talk seat.0 n j).orderly })
             (reply_none (arrival_count j) q.0 reply (talk seat.0 n j).rows (below seat.0 n j numbered)
-                (omega (arith, next)))),
-    (
-      q.0,
-      t link.0 ∙ ap (λ k. record { rows = with_reply q.0 reply k.rows; orderly = k.orderly })
-          (arrived_adds seat q service link request j)
-          ∙ ap (λ rows. record { rows = rows;
-              orderly = (add_row (asked_row q service request) (talk seat.0 link.0 j)).orderly })
+            (omega (arith, next)))),
+        (
+          q.0,
+          t link.0 ∙ ap (λ k. record { rows = with_reply q.0 reply k.rows; orderly = k.orderly })
+              (arrived_adds seat q service link request j)
+              ∙ ap (λ rows. record {
+                rows = rows;
+                orderly = (add_row (asked_row q service request) (talk seat.0 link.0 j)).orderly;
+              })
               (reply_last (arrival_count j) q service request reply (talk seat.0 link.0 j).rows
-                  (below seat.0 link.0 j numbered)
+              (below seat.0 link.0 j numbered)
               (omega (arith, next))),
-    ),
-  )
-] told
+        ),
+      )
+    ] told
   where
     j1 : List Entry
     j1 = j ++ arrive_entry seat q service link request ∷ []
@@ -161,8 +168,10 @@ answers seat q service link request j out numbered next =
     j3 : List Entry
     j3 = three_entries j seat q service link request out
 
-    told : (n : ℕ) → talk seat.0 n j3 ≡ record { rows = with_reply_if q.0 out.reply (talk seat.0 n j1).rows;
-        orderly = (talk seat.0 n j1).orderly }
+    told : (n : ℕ) → talk seat.0 n j3 ≡ record {
+      rows = with_reply_if q.0 out.reply (talk seat.0 n j1).rows;
+      orderly = (talk seat.0 n j1).orderly;
+    }
     told n = talk_push seat.0 n j2 (Turn seat q out)
         ∙ ap (λ k. record { rows = with_reply_if q.0 out.reply k.rows; orderly = k.orderly }) (begun_same n seat q j1)
 
@@ -176,7 +185,7 @@ pub run_arrived : {I : Type 0} (m : Meaning I) (world : Config) (s : State I) (j
 run_arrived m world s j n seat q service link request r x e known open_ below =
     run_push seat m world j (arrive_entry seat q service link request) s r x.state
     (arrive_allowed world s n seat q service link request x.rests e known open_ below) (e ∙ ap (λ k. k + 1) x.count)
-        refl
+    refl
 
 -- after the arrival
 pub state_arrived : {I : Type 0} (m : Meaning I) (world : Config) (s : State I) (j : List Entry) (n : ℕ) (seat : Seat)
@@ -192,7 +201,7 @@ pub run_begun : {I : Type 0} (m : Meaning I) (world : Config) (s : State I) (j :
     (service : List ℕ) (link : LinkNo) (request : ReqData) (w : WorkerState I)
     → IsRun seat m world (j ++ arrive_entry seat q service link request ∷ []) → Stands m world s j n → q.0 ≡ n + 1
     → worker_of service s.workers ≡ Some w → seat.0 < 64
-        → IsRun seat m world (two_entries j seat q service link request)
+    → IsRun seat m world (two_entries j seat q service link request)
 run_begun m world s j n seat q service link request w r x e found below =
     run_push seat m world (j ++ arrive_entry seat q service link request ∷ []) (Begin seat q)
     (after_arrival s seat q service link request) r (state_arrived m world s j n seat q service link request x)
@@ -216,7 +225,7 @@ pub run_turned : {I : Type 0} (m : Meaning I) (world : Config) (s : State I) (j 
     → IsRun seat m world (three_entries j seat q service link request (out_of m seat q service link request w))
 run_turned m world s j n seat q service link request w r x e found below =
     run_push seat m world (two_entries j seat q service link request)
-        (Turn seat q (out_of m seat q service link request w))
+    (Turn seat q (out_of m seat q service link request w))
     (while_turn m s seat q service link request w) r (state_begun m world s j n seat q service link request w x e found)
     (turn_allowed m world s n seat q service link request w x.rests e found below) tt refl
 
@@ -229,7 +238,7 @@ pub stands_arrived : {I : Type 0} (m : Meaning I) (world : Config) (s : State I)
     (service : List ℕ) (link : LinkNo) (request : ReqData) → Stands m world s j n → q.0 ≡ n + 1
     → position_from (is_worker service) 0 s.workers ≡ None
     → Stands m world (after_arrival s seat q service link request) (j ++ arrive_entry seat q service link request ∷ [])
-        q.0
+    q.0
 stands_arrived m world s j n seat q service link request x e none = record {
   state = state_arrived m world s j n seat q service link request x;
   rests = rests_arrived s n seat q service link request x.rests e none;
@@ -248,8 +257,8 @@ stands_turned m world s j n seat q service link request w out x e found = record
   rests = rests_turned m s n seat q service link request w x.rests e found;
   count = let zero_more : (k : ℕ) → k + 0 ≡ k = λ k. omega arith in
       e ∙ ap (λ k. k + 1) x.count ∙ sym (count_push (two_entries j seat q service link request) (Turn seat q out)
-          ∙ zero_more _ ∙ count_push (j ++ arrive_entry seat q service link request ∷ []) (Begin seat q) ∙ zero_more _
-          ∙ count_arrived j seat q service link request);
+      ∙ zero_more _ ∙ count_push (j ++ arrive_entry seat q service link request ∷ []) (Begin seat q) ∙ zero_more _
+      ∙ count_arrived j seat q service link request);
 }
 
 -- THE SERVICES OF SOCKETS
@@ -324,7 +333,7 @@ pub begun_run : {I : Type 0} (m : Meaning I) (world : Config) (s : State I) (j :
     (service : List ℕ) (link : LinkNo) (request : ReqData) (place : ℕ)
     → IsRun seat m world (j ++ arrive_entry seat q service link request ∷ []) → Stands m world s j n → q.0 ≡ n + 1
     → position_from (is_worker service) 0 s.workers ≡ Some place → seat.0 < 64
-        → IsRun seat m world (two_entries j seat q service link request)
+    → IsRun seat m world (two_entries j seat q service link request)
 begun_run m world s j n seat q service link request place r x e found below =
     let w = found_place (is_worker service) s.workers 0 place found in
     run_begun m world s j n seat q service link request w.0 r x e w.1 below
@@ -337,8 +346,8 @@ pub places_begun : {I : Type 0} (m : Meaning I) (s s2 : State I) (n : ℕ) (seat
 places_begun m s s2 n seat q service link request place r e found is =
     let w = found_place (is_worker service) s.workers 0 place found in
     subst (λ t. ArePlaces t.workers t.requests (record { req = q; row = Some n; worker = Some place }))
-        (sym (is ∙ begins m s n seat q service link request w.0 r e w.1))
-        (turn_places m s n seat q service link request w.0 place r e found)
+    (sym (is ∙ begins m s n seat q service link request w.0 r e w.1))
+    (turn_places m s n seat q service link request w.0 place r e found)
 
 -- what is known when the turn has ended, or memory ran out in it
 pub record Exchanged {I : Type 0} (seat : Seat) (m : Meaning I) (world : Config) (link : LinkNo) (service : List ℕ)
@@ -352,33 +361,36 @@ pub exchanged : {I : Type 0} (m : Meaning I) (world : Config) (s s2 s3 : State I
     (seat : Seat) (q : Req) (service : List ℕ) (link : LinkNo) (request : ReqData) (place : ℕ)
     (result : Result (Option Reply) NoMemory)
     → IsNumbered j → IsRun seat m world (j ++ arrive_entry seat q service link request ∷ []) → Stands m world s j n
-        → q.0 ≡ n + 1
-        → position_from (is_worker service) 0 s.workers ≡ Some place
+    → q.0 ≡ n + 1
+    → position_from (is_worker service) 0 s.workers ≡ Some place
     → s2 ≡ begun m (after_arrival s seat q service link request) seat q → j2 ≡ two_entries j seat q service link request
     → OnOk result (s3 ≡ turned s2 seat q)
-        → IfOk result (λ reply. Ends seat q
-        (turn_out (request_of q.0 s2.requests) (worker_for (request_of q.0 s2.requests) s2.workers)) j2 j3 reply)
-        → OnErr result (j3 ≡ j2)
+    → IfOk result (λ reply. Ends seat q
+    (turn_out (request_of q.0 s2.requests) (worker_for (request_of q.0 s2.requests) s2.workers)) j2 j3 reply)
+    → OnErr result (j3 ≡ j2)
     → seat.0 < 64 → Exchanged seat m world link service request j j3 s3 q.0 result
 exchanged m world s s2 s3 j j2 j3 n seat q service link request place (Err x) numbered r st e found is2 ij2 is3 ends err
     below =
     subst (λ k. Exchanged seat m world link service request j k s3 q.0 (Err x)) (sym (err ∙ ij2))
-    (record { answers = asks_begun x seat q service link request j;
-        run = begun_run m world s j n seat q service link request place r st e found below; stands = tt })
+    (record {
+      answers = asks_begun x seat q service link request j;
+      run = begun_run m world s j n seat q service link request place r st e found below;
+      stands = tt;
+    })
 exchanged m world s s2 s3 j j2 j3 n seat q service link request place (Ok reply) numbered r st e found is2 ij2 is3 ends
     err below =
     let w = found_place (is_worker service) s.workers 0 place found in
     let out : Out = out_of m seat q service link request w.0 in
     let now : s2 ≡ while_turn m s seat q service link request w.0 = is2
-        ∙ begins m s n seat q service link request w.0 st.rests e w.1 in
+    ∙ begins m s n seat q service link request w.0 st.rests e w.1 in
     let gives : turn_out (request_of q.0 s2.requests) (worker_for (request_of q.0 s2.requests) s2.workers) ≡ Some out =
     ap (λ t. turn_out (request_of q.0 t.requests) (worker_for (request_of q.0 t.requests) t.workers)) now
-        ∙ turn_out_is m s n seat q service link request w.0 st.rests e w.1 in
+    ∙ turn_out_is m s n seat q service link request w.0 st.rests e w.1 in
     let ended : Ends seat q (Some out) j2 j3 reply = subst (λ o. Ends seat q o j2 j3 reply) gives ends in
     let whole : j3 ≡ three_entries j seat q service link request out = ended.0
-        ∙ ap (λ k. k ++ Turn seat q out ∷ []) ij2 in
+    ∙ ap (λ k. k ++ Turn seat q out ∷ []) ij2 in
     let two : IsRun seat m world (two_entries j seat q service link request) =
-        run_begun m world s j n seat q service link request w.0 r st e w.1 below in
+    run_begun m world s j n seat q service link request w.0 r st e w.1 below in
     subst (λ k. Exchanged seat m world link service request j k s3 q.0 (Ok reply)) (sym whole)
     (record {
       answers = subst (λ o. Answers seat link service request j (three_entries j seat q service link request out)
@@ -407,10 +419,10 @@ pub places_turned : {I : Type 0} (m : Meaning I) (s s2 s3 : State I) (n : ℕ) (
 places_turned m s s2 s3 n seat q service link request place r e found is2 is3 =
     let w = found_place (is_worker service) s.workers 0 place found in
     let now : s2 ≡ while_turn m s seat q service link request w.0 = is2
-        ∙ begins m s n seat q service link request w.0 r e w.1 in
+    ∙ begins m s n seat q service link request w.0 r e w.1 in
     subst (λ t. ArePlaces t.workers t.requests (record { req = q; row = Some n; worker = Some place }))
-        (sym (is3 ∙ ap (λ t. turned t seat q) now))
-            (turned_places m s n seat q service link request w.0 place r e found)
+    (sym (is3 ∙ ap (λ t. turned t seat q) now))
+    (turned_places m s n seat q service link request w.0 place r e found)
 
 pub ended_too : {I : Type 0} (m : Meaning I) (s s2 s3 : State I) (n : ℕ) (seat : Seat) (q : Req) (service : List ℕ)
     (link : LinkNo)
@@ -420,10 +432,10 @@ pub ended_too : {I : Type 0} (m : Meaning I) (s s2 s3 : State I) (n : ℕ) (seat
 ended_too m s s2 s3 n seat q service link request place r e found is2 is3 over all =
     let w = found_place (is_worker service) s.workers 0 place found in
     let now : s3 ≡ turned (while_turn m s seat q service link request w.0) seat q = is3
-        ∙ ap (λ t. turned t seat q) (is2 ∙ begins m s n seat q service link request w.0 r e w.1) in
+    ∙ ap (λ t. turned t seat q) (is2 ∙ begins m s n seat q service link request w.0 r e w.1) in
     subst (λ t. AreEnded t.requests) (sym now)
-        (turned_ended m s n seat q service link request w.0 r e
-        (subst (λ t. has_ended (request_of q.0 t.requests) ≡ true) now over) all)
+    (turned_ended m s n seat q service link request w.0 r e
+    (subst (λ t. has_ended (request_of q.0 t.requests) ≡ true) now over) all)
 
 -- the state is that after the entries, and at rest: where each request has ended, nothing is left to do
 pub over_after : {I : Type 0} (m : Meaning I) (world : Config) (s : State I) (j : List Entry) (n : ℕ)
@@ -457,7 +469,12 @@ pub first_stands : {I : Type 0} (m : Meaning I) (world : Config) → Stands m wo
 unfolding arrival_count
 first_stands m world = record {
   state = refl;
-  rests = record { rows = tt; count = refl; running = refl; due = refl;
-      idle = idle_first m world.services world.services };
+  rests = record {
+    rows = tt;
+    count = refl;
+    running = refl;
+    due = refl;
+    idle = idle_first m world.services world.services;
+  };
   count = refl;
 }

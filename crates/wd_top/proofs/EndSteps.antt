@@ -74,7 +74,7 @@ pub listening_failed : {P : Type 0} (seat : Seat) (told : P → Told) (gone : P 
 listening_failed seat told gone faults [] entries world o address is one at = absurd (omega (arith, one))
 listening_failed seat told gone faults (p ∷ ports) entries world o address is one at =
     let here : AtPorts seat told gone faults (p ∷ ports) entries (outcome.NoListen address) world =
-        subst (λ x. AtPorts seat told gone faults (p ∷ ports) entries x world) is at in
+    subst (λ x. AtPorts seat told gone faults (p ∷ ports) entries x world) is at in
     inl ((here 0 p (omega arith)).outcome.0)
 
 session_caused : (seat : Seat) (call : Call) (world : Config) (o : Outcome) → IsSessionEnd seat o
@@ -159,9 +159,11 @@ pub checked_caused : (words : List (List ℕ)) (files : Option Stored) (rr mr lf
     (o : Outcome) → Plans words files (Starts v world) → v ≡ verb.Check
     → o ≡ outcome.Checked (length world.services) (length world.sockets)
     → IsCaused (call_by words files rr mr lf) o
-checked_caused words files rr mr lf v world o plan check is =
-    (world, subst (Caused (call_by words files rr mr lf) world) (sym is)
-        (subst (λ x. Plans words files (Starts x world)) check plan, refl, refl))
+checked_caused words files rr mr lf v world o plan check is = (
+  world,
+  subst (Caused (call_by words files rr mr lf) world) (sym is)
+      (subst (λ x. Plans words files (Starts x world)) check plan, refl, refl),
+)
 
 -- an outcome without a session
 pub early_comes : (seat : Seat) (words : List (List ℕ)) (files : Option Stored) (rr mr mr' lf lf' : Type 0)
@@ -215,7 +217,7 @@ Else call sink_rose status = ((status ≡ 5) × call.read_failed) ⊎ (((status 
 
 by_plan : (call : Call) (s : Stored) (sr : Type 0) (plan asked : Plan) (status : ℕ) → call.files ≡ Some s
     → Asks call asked → Asks call plan → status_for call plan status → status_for call asked status
-        ⊎ Else call sr status
+    ⊎ Else call sr status
 by_plan call s sr plan asked status told asks is h =
     let told_plan : Plans call.words (Some s) plan = subst (λ f. Plans call.words f plan) told is in
     let told_asked : Plans call.words (Some s) asked = subst (λ f. Plans call.words f asked) told asks in

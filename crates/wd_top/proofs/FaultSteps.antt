@@ -66,8 +66,10 @@ write_part Connected (WriteLink Connected) f n h = h
 pub read_blamed : {T : Type 0} (side : Side) (f g : Faults) (result : Result T Failed)
     → Blames (ReadLink side) f g result → NoneFell f g
 read_blamed side f g result b =
-    record { each = λ q. subst (λ x. part q f ≤ part q x) (sym b.own)
-    (read_part side q f (part (ReadLink side) g) b.later) }
+    record {
+      each = λ q. subst (λ x. part q f ≤ part q x) (sym b.own)
+          (read_part side q f (part (ReadLink side) g) b.later);
+    }
 
 -- after writes
 pub written : (side : Side) (f g : Faults) → OnlyPart (WriteLink side) f g → NoneFell f g

@@ -30,26 +30,50 @@ use Rattle.wd_top.proofs.SessionSteps.{whole_closed, whole_ended, whole_refused,
 
 pub hears_same : (n : LinkNo) (run : LinkRun) (i : Heard) (t new : Told) → new ≡ t
     → ((s : List ℕ) (l : LinkState) (k : Talk) → Opened s l k run → Known i s l k run) → Hears n run run i t new
-hears_same n run i t new e known = record { change = λ l. l; tells = e ∙ same_link n t; stands = λ l. (refl, refl);
-    same = (refl, refl); known = known }
+hears_same n run i t new e known = record {
+  change = λ l. l;
+  tells = e ∙ same_link n t;
+  stands = λ l. (refl, refl);
+  same = (refl, refl);
+  known = known;
+}
 
 pub hears_fed : (n : LinkNo) (run run' : LinkRun) (i : Heard) (t : Told) → Knows run [] i run' → SameButConn run run'
     → Hears n run run' i t t
-hears_fed n run run' i t knows e = record { change = λ l. l; tells = same_link n t; stands = λ l. (refl, refl);
-    same = e; known = λ s l k o. knows s l k (subst (λ q. Reading s l k q false []) (sym (append-nil run.conn.queue))
-    o.reading) o.phase }
+hears_fed n run run' i t knows e = record {
+  change = λ l. l;
+  tells = same_link n t;
+  stands = λ l. (refl, refl);
+  same = e;
+  known = λ s l k o. knows s l k (subst (λ q. Reading s l k q false []) (sym (append-nil run.conn.queue))
+      o.reading) o.phase;
+}
 
 pub hears_bytes : (n : LinkNo) (run run' : LinkRun) (i : Heard) (b : List ℕ) (t new : Told) → new ≡ received_on n b t
     → Knows run b i run' → SameButConn run run' → Hears n run run' i t new
-hears_bytes n run run' i b t new e knows same = record { change = with_received b; tells = e ∙ received_link n b t;
-    stands = λ l. (refl, refl); same = same; known =
-    λ s l k o. knows s (with_received b l) k (reading_more s l k run.conn.queue b o.reading) o.phase }
+hears_bytes n run run' i b t new e knows same = record {
+  change = with_received b;
+  tells = e ∙ received_link n b t;
+  stands = λ l. (refl, refl);
+  same = same;
+  known =
+      λ s l k o. knows s (with_received b l) k (reading_more s l k run.conn.queue b o.reading) o.phase;
+}
 
 pub hears_end : (n : LinkNo) (run : LinkRun) (t new : Told) → new ≡ ended_on n t → run.ready ≡ false
     → Hears n run run heard.End t new
-hears_end n run t new e r = record { change = with_end; tells = e ∙ ended_link n t; stands = λ l. (refl, refl);
-    same = (refl, refl); known = λ s l k o. (run.conn.queue, reading_end s l k run.conn.queue o.reading, o.waits r,
-    refl) }
+hears_end n run t new e r = record {
+  change = with_end;
+  tells = e ∙ ended_link n t;
+  stands = λ l. (refl, refl);
+  same = (refl, refl);
+  known = λ s l k o. (
+    run.conn.queue,
+    reading_end s l k run.conn.queue o.reading,
+    o.waits r,
+    refl,
+  );
+}
 
 -- neither the port nor the journal changed
 unmoved : (seat : Seat) (n : LinkNo) (s : List ℕ) (run run' : LinkRun) (i : Heard) (e : StepEnd) (t : Told)
@@ -58,8 +82,14 @@ unmoved : (seat : Seat) (n : LinkNo) (s : List ℕ) (run run' : LinkRun) (i : He
     → ((l : LinkState) → Known i s l (talk seat.0 n.0 j) run → After e s l (talk seat.0 n.0 j) run' gone)
     → Handles seat n s run run' i e t t j j gone
 unmoved seat n s run run' i e t j gone same after =
-    record { change = λ l. l; tells = same_link n t; stands = λ l. (refl, refl); same = same; others = λ k ne. refl;
-    after = after }
+    record {
+      change = λ l. l;
+      tells = same_link n t;
+      stands = λ l. (refl, refl);
+      same = same;
+      others = λ k ne. refl;
+      after = after;
+    }
 
 pub handles_later : (seat : Seat) (n : LinkNo) (s : List ℕ) (run : LinkRun) (i : Heard) (t : Told) (j : List Entry)
     (gone : Type 0)
@@ -67,22 +97,22 @@ pub handles_later : (seat : Seat) (n : LinkNo) (s : List ℕ) (run : LinkRun) (i
 handles_later seat n s run i t j gone is = unmoved seat n s run (record run { ready = false }) i end.Open t j gone
     (refl, refl)
     (λ l k. let h : Known (heard.Fed fed.Later) s l (talk seat.0 n.0 j) run = subst
-        (λ x. Known x s l (talk seat.0 n.0 j) run) is
-        k in record { reading = h.0; phase = h.1; waits = λ _. h.2 })
+    (λ x. Known x s l (talk seat.0 n.0 j) run) is
+    k in record { reading = h.0; phase = h.1; waits = λ _. h.2 })
 
 pub handles_nothing : (seat : Seat) (n : LinkNo) (s : List ℕ) (run : LinkRun) (i : Heard) (t : Told) (j : List Entry)
     (gone : Type 0)
     → i ≡ heard.Nothing → Handles seat n s run run i end.Open t t j j gone
 handles_nothing seat n s run i t j gone is =
     unmoved seat n s run run i end.Open t j gone (refl, refl)
-        (λ l k. subst (λ x. Known x s l (talk seat.0 n.0 j) run) is k)
+    (λ l k. subst (λ x. Known x s l (talk seat.0 n.0 j) run) is k)
 
 pub handles_end : (seat : Seat) (n : LinkNo) (s : List ℕ) (run : LinkRun) (i : Heard) (t : Told) (j : List Entry)
     (gone : Type 0)
     → i ≡ heard.End → Handles seat n s run run i end.Over t t j j gone
 handles_end seat n s run i t j gone is = unmoved seat n s run run i end.Over t j gone (refl, refl)
     (λ l k. let h : Known heard.End s l (talk seat.0 n.0 j) run = subst (λ x. Known x s l (talk seat.0 n.0 j) run) is k
-        in
+    in
     (carries_all s _ _ h.0 false h.1, λ _. whole_ended s _ _ h.0 h.1 h.2 h.3))
 
 pub handles_lost : (seat : Seat) (n : LinkNo) (s : List ℕ) (run : LinkRun) (i : Heard) (t : Told) (j : List Entry)
@@ -90,7 +120,7 @@ pub handles_lost : (seat : Seat) (n : LinkNo) (s : List ℕ) (run : LinkRun) (i 
     → i ≡ heard.Lost → (i ≡ heard.Lost → gone) → Handles seat n s run run i end.Over t t j j gone
 handles_lost seat n s run i t j gone is lost = unmoved seat n s run run i end.Over t j gone (refl, refl)
     (λ l k. let h : Known heard.Lost s l (talk seat.0 n.0 j) run = subst (λ x. Known x s l (talk seat.0 n.0 j) run) is k
-        in
+    in
     (carries_all s _ _ h.0 false h.1, λ ng. absurd (ng (lost is))))
 
 pub handles_full : (seat : Seat) (n : LinkNo) (s : List ℕ) (run : LinkRun) (i : Heard) (t : Told) (j : List Entry)
@@ -98,8 +128,8 @@ pub handles_full : (seat : Seat) (n : LinkNo) (s : List ℕ) (run : LinkRun) (i 
     → i ≡ heard.Full → Handles seat n s run run i end.Full t t j j gone
 handles_full seat n s run i t j gone is = unmoved seat n s run run i end.Full t j gone (refl, refl)
     (λ l k. let h : Known heard.Full s l (talk seat.0 n.0 j) run = subst (λ x. Known x s l (talk seat.0 n.0 j) run) is k
-        in
-        carries_all s _ _ h.0 false h.1)
+    in
+    carries_all s _ _ h.0 false h.1)
 
 -- a request, its turn and its text
 sent_after : (s : List ℕ) (l : LinkState) (t' : Talk) (run : LinkRun) (c : Bool) (text : List ℕ) (k : ℕ)
@@ -111,8 +141,11 @@ sent_after s l t' run true text k (Ok x) gone h all lost live ready r = let d :
     reading_sent s l t' run.conn.queue true text k all r in
     (carries_all s _ _ run.conn.queue true d, λ _. whole_closed s _ _ run.conn.queue d)
 sent_after s l t' run false text k (Ok x) gone h all lost live ready r =
-    record { reading = reading_sent s l t' run.conn.queue false text k all r; phase = live refl;
-    waits = λ e. absurd (false≢true (sym e ∙ ready)) }
+    record {
+      reading = reading_sent s l t' run.conn.queue false text k all r;
+      phase = live refl;
+      waits = λ e. absurd (false≢true (sym e ∙ ready));
+    }
 sent_after s l t' run c text k (Err Fault) gone h all lost live ready r =
     (carries_part s l t' run.conn.queue c text k h r, λ ng. absurd (ng (lost refl)))
 sent_after s l t' run c text k (Err NoMemory) gone h all lost live ready r =
@@ -137,9 +170,9 @@ handles_request seat n s run i r c e t new j j' gone is (inl (p, w, a, x, ends, 
   after = λ l k.
       let h : Asks s l (talk seat.0 n.0 j) r c run = subst (λ y. Known y s l (talk seat.0 n.0 j) run) is k in
       subst (λ y. After y s (with_sent (take x.count (reply_text p (is_head r) c)) l) (talk seat.0 n.0 j')
-          (record run { ready = true }) gone) (sym ends)
+      (record run { ready = true }) gone) (sym ends)
       (sent_after s l (talk seat.0 n.0 j') (record run { ready = true }) c (reply_text p (is_head r) c) x.count w gone
-          x.within x.whole lost h.phase refl
+      x.within x.whole lost h.phase refl
       (reading_asked s l (talk seat.0 n.0 j) (talk seat.0 n.0 j') run r c a.1.0 p h a.1.1));
 }
 handles_request seat n s run i r c e t new j j' gone is (inr (others, asked, same, left)) = record {
@@ -158,9 +191,9 @@ handles_request seat n s run i r c e t new j j' gone is (inr (others, asked, sam
 }
 
 refused_after : (s : List ℕ) (l : LinkState) (t : Talk) (run : LinkRun) (rest : List ℕ) (code k : ℕ)
-    (w : Result (Unit {0}) Failed) (gone : Type 0) → k ≤ length (tail_text (Some code))
-    → OnOk w (k ≡ length (tail_text (Some code))) → (IsErrOf w Fault → gone) → Reading s l t rest false []
-    → IsFault rest code → After (end_of w true) s (with_sent (take k (tail_text (Some code))) l) t run gone
+    (w : Result (Unit {0}) Failed) (gone : Type 0) → k ≤ length (tail_text rest (Some code))
+    → OnOk w (k ≡ length (tail_text rest (Some code))) → (IsErrOf w Fault → gone) → Reading s l t rest false []
+    → IsFault rest code → After (end_of w true) s (with_sent (take k (tail_text rest (Some code))) l) t run gone
 refused_after s l t run rest code k (Ok x) gone h all lost r f =
     (carries_refused s l t rest code k h r f, λ _. whole_refused s l t rest code k all r f)
 refused_after s l t run rest code k (Err Fault) gone h all lost r f =
@@ -170,15 +203,15 @@ refused_after s l t run rest code k (Err NoMemory) gone h all lost r f = carries
 pub handles_bad : (seat : Seat) (n : LinkNo) (s : List ℕ) (run : LinkRun) (i : Heard) (code : ℕ)
     (w : Result (Unit {0}) Failed)
     (t new : Told) (j : List Entry) (gone : Type 0) → i ≡ heard.Fed (fed.Bad code) → (IsErrOf w Fault → gone)
-    → Sends n (tail_text (Some code)) w t new → Handles seat n s run run i (end_of w true) t new j j gone
+    → Sends n (tail_text run.conn.queue (Some code)) w t new → Handles seat n s run run i (end_of w true) t new j j gone
 handles_bad seat n s run i code w t new j gone is lost x = record {
-  change = with_sent (take x.count (tail_text (Some code)));
+  change = with_sent (take x.count (tail_text run.conn.queue (Some code)));
   tells = x.tells ∙ sent_link n _ t;
   stands = λ l. (refl, refl);
   same = (refl, refl);
   others = λ k ne. refl;
   after = λ l k.
       let h : Known (heard.Fed (fed.Bad code)) s l (talk seat.0 n.0 j) run =
-          subst (λ y. Known y s l (talk seat.0 n.0 j) run) is k in
-      refused_after s l (talk seat.0 n.0 j) run h.0 code x.count w gone x.within x.whole lost h.1 h.2;
+      subst (λ y. Known y s l (talk seat.0 n.0 j) run) is k in
+      refused_after s l (talk seat.0 n.0 j) run run.conn.queue code x.count w gone x.within x.whole lost h.0 h.1;
 }

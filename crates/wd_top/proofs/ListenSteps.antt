@@ -30,7 +30,7 @@ pub listens_more : (first t new : Told) (ss : List Socket) (i : ℕ) (s : Socket
     → new ≡ record first { sockets = addresses (take (i + 1) ss) }
 listens_more first t new ss i s h e so_far tells =
     tells ∙ ap (λ (x : Told). record x { sockets = x.sockets ++ s.address ∷ [] }) so_far
-        ∙ ap (λ all. record first { sockets = all }) (sym (addresses_next ss i s h e))
+    ∙ ap (λ all. record first { sockets = all }) (sym (addresses_next ss i s h e))
 
 failed_holds : (seat : Seat) (world : Config) (o : Outcome) (t : Told) (gone : LinkNo → Type 0) (f : Faults)
     (entries : List Entry)
@@ -65,7 +65,7 @@ pub not_listening : (seat : Seat) (world : Config) (o : Outcome) (first t : Told
     → Listens (addresses world.sockets) first t f (Err o) → Holds seat world o t gone f entries
 not_listening seat world o first t gone f entries new empty front (same, why) =
     let links : IfSome t.links (λ links. links ≡ []) =
-        subst (λ ls. IfSome ls (λ links. links ≡ [])) (sym (ap (λ x. x.links) same)) new.links in
+    subst (λ ls. IfSome ls (λ links. links ≡ [])) (sym (ap (λ x. x.links) same)) new.links in
     let given : t.given ≡ 0 = ap (λ x. x.given) same ∙ new.given in
     record {
       sockets = front;

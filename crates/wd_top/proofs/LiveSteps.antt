@@ -31,8 +31,10 @@ in_more i x (y ∷ ys) (inr h) = inr (in_more i x ys h)
 pub within_new : (live live' : List ℕ) (runs runs' : List LinkRun) (x : LinkRun) → runs' ≡ runs ++ x ∷ []
     → live' ≡ live ++ length runs ∷ [] → AreWithin live (length runs) → AreWithin live' (length runs')
 within_new live live' runs runs' x e f w =
-    rw (e, f) (record { below = let l : length (runs ++ x ∷ []) ≡ length runs + 1 = length-append runs _ in
-    below_snoc _ (length runs) live (omega arith) (below_more (length runs) _ live (omega arith) w.below) })
+    rw (e, f) (record {
+      below = let l : length (runs ++ x ∷ []) ≡ length runs + 1 = length-append runs _ in
+          below_snoc _ (length runs) live (omega arith) (below_more (length runs) _ live (omega arith) w.below);
+    })
 
 pub covers_new : (live live' : List ℕ) (runs runs' : List LinkRun) (x : LinkRun) → runs' ≡ runs ++ x ∷ []
     → live' ≡ live ++ length runs ∷ [] → Covers live runs → Covers live' runs'
@@ -40,8 +42,11 @@ covers_new live live' runs runs' x e f c = rw (e, f) (record {
   each = λ i h. elim (cases_eq i (length runs)) [
     | inl q ↦ inr (subst (λ k. In k (live ++ length runs ∷ [])) (sym q) (in_last (length runs) live))
     | inr ne ↦ let below : i < length runs = let k : i < length runs + 1 = rw length-append at h in omega arith in
-        elim (c.each i below) [ inl s ↦ inl (ap (λ r. r.stage) (old_run runs x i below) ∙ s) | inr n ↦ inr
-            (in_more i (length runs) live n) ]
+        elim (c.each i below) [
+          | inl s ↦ inl (ap (λ r. r.stage) (old_run runs x i below) ∙ s)
+          | inr n ↦ inr
+              (in_more i (length runs) live n)
+        ]
   ];
 })
 
@@ -78,9 +83,9 @@ keep_in : (runs : List LinkRun) (i : ℕ) (live : List ℕ) → In i live → ((
 keep_in runs i [] h = elim h [ ]
 keep_in runs i (x ∷ xs) (inl e) = elim (is_shut (run_at runs x).stage) as (λ b. is_shut (run_at runs x).stage ≡ b
     → ((run_at runs i).stage ≡ Shut) ⊎ In i (cond b (keep runs xs) (x ∷ keep runs xs))) [
-  | true ↦ λ s. inl (ap (λ k. (run_at runs k).stage) (sym e) ∙ not_shut _ s)
-  | false ↦ λ s. inr (inl e)
-] refl
+      | true ↦ λ s. inl (ap (λ k. (run_at runs k).stage) (sym e) ∙ not_shut _ s)
+      | false ↦ λ s. inr (inl e)
+    ] refl
 keep_in runs i (x ∷ xs) (inr h) = elim (keep_in runs i xs h) [
   | inl s ↦ inl s
   | inr n ↦ inr (elim (is_shut (run_at runs x).stage) as (λ b. In i (cond b (keep runs xs) (x ∷ keep runs xs)))
@@ -175,7 +180,7 @@ pub record Compacts (runs : List LinkRun) (init live : List ℕ) (kept k : ℕ) 
 pub compacts : (runs : List LinkRun) (init live live' : List ℕ) (kept kept' k : ℕ) (goes : Bool) → k < length live
     → Compacts runs init live kept k → goes ≡ is_shut (run_at runs (get_or live k 0)).stage → length live' ≡ length live
     → take kept' live' ≡ take kept live ++ cond goes [] (get_or live k 0 ∷ [])
-        → drop (kept + 1) live' ≡ drop (kept + 1) live → kept' ≤ kept + 1 → Compacts runs init live' kept' (k + 1)
+    → drop (kept + 1) live' ≡ drop (kept + 1) live → kept' ≤ kept + 1 → Compacts runs init live' kept' (k + 1)
 compacts runs init live live' kept kept' k goes h c d len front rest bound = record {
   behind = let b = c.behind in omega arith;
   same = len ∙ c.same;
@@ -184,9 +189,9 @@ compacts runs init live live' kept kept' k goes h c d len front rest bound = rec
   front = ap (λ t. t ++ keep runs (drop (k + 1) init)) front
       ∙ keep_cond runs (get_or live k 0) (take kept live) (drop (k + 1) init) goes
       ∙ ap (λ b. take kept live
-          ++ cond b (keep runs (drop (k + 1) init)) (get_or live k 0 ∷ keep runs (drop (k + 1) init))) d
+      ++ cond b (keep runs (drop (k + 1) init)) (get_or live k 0 ∷ keep runs (drop (k + 1) init))) d
       ∙ ap (λ x. take kept live ++ cond (is_shut (run_at runs x).stage) (keep runs (drop (k + 1) init))
-          (x ∷ keep runs (drop (k + 1) init))) (same_at live init k h (let s = c.same in omega arith) c.rest)
+      (x ∷ keep runs (drop (k + 1) init))) (same_at live init k h (let s = c.same in omega arith) c.rest)
       ∙ ap (λ l. take kept live ++ keep runs l) (sym (cons_at init k (let s = c.same in omega arith))) ∙ c.front;
 }
 

@@ -19,6 +19,7 @@ use Rattle.wd_top.specs.Text.{line}
 use Rattle.http_in.proofs.StreamLaws.{all_more, all_snoc, closing_snoc}
 use Rattle.wd_top.specs.Talk.{Row, Talk, answered, add_row}
 use Rattle.wd_top.specs.Session.{is_head, tail_text, asked, arrivals, replies, AreAt, Carries, IsWhole}
+use Rattle.wd_top.specs.Session.{is_line_end, behind_lines}
 use Rattle.wd_top.specs.Steps.{Reading, Asks}
 
 -- what a port tells: one link is changed
@@ -46,14 +47,30 @@ shut_link n change t = twice n change with_shut t
 pub reading_more : (service : List ℕ) (l : LinkState) (t : Talk) (rest b : List ℕ) → Reading service l t rest false []
     → Reading service (with_received b l) t (rest ++ b) false []
 reading_more service l t rest b r =
-    record { requests = r.requests; reads = all_more l.received r.requests rest b r.reads; closes = r.closes;
-    arrived = r.arrived; placed = r.placed; orderly = r.orderly; answers = r.answers; sent = r.sent }
+    record {
+      requests = r.requests;
+      reads = all_more l.received r.requests rest b r.reads;
+      closes = r.closes;
+      arrived = r.arrived;
+      placed = r.placed;
+      orderly = r.orderly;
+      answers = r.answers;
+      sent = r.sent;
+    }
 
 -- the end came
 pub reading_end : (service : List ℕ) (l : LinkState) (t : Talk) (rest : List ℕ) → Reading service l t rest false []
     → Reading service (with_end l) t rest false []
-reading_end service l t rest r = record { requests = r.requests; reads = r.reads; closes = r.closes;
-    arrived = r.arrived; placed = r.placed; orderly = r.orderly; answers = r.answers; sent = r.sent }
+reading_end service l t rest r = record {
+  requests = r.requests;
+  reads = r.reads;
+  closes = r.closes;
+  arrived = r.arrived;
+  placed = r.placed;
+  orderly = r.orderly;
+  answers = r.answers;
+  sent = r.sent;
+}
 
 -- a text more on the line
 line_snoc : (rs : Requests) (rows : List Row) (r : ReqData) (c : Bool) (row : Row) (p : Reply) → row.reply ≡ Some p
@@ -65,8 +82,8 @@ line_snoc (y ∷ ys) [] r c row p is e a = absurd (cc)
 line_snoc (y ∷ ys) (x ∷ xs) r c row p is e a =
     let tail : arrivals xs ≡ asked ys = cc in
     elim x.reply as (λ o. (is_some o && answered xs) ≡ true
-        → line (y ∷ (ys ++ (r, c) ∷ [])) (o ∷ replies (xs ++ row ∷ [])) ≡ line (y ∷ ys) (o ∷ replies xs)
-        ++ reply_text p (is_head r) c) [
+    → line (y ∷ (ys ++ (r, c) ∷ [])) (o ∷ replies (xs ++ row ∷ [])) ≡ line (y ∷ ys) (o ∷ replies xs)
+    ++ reply_text p (is_head r) c) [
       | None ↦ λ a. absurd (false≢true a)
       | Some p' ↦ λ a. ap (λ t. reply_text p' (is_head y.0) y.1 ++ t) (line_snoc ys xs r c row p is tail a)
           ∙ sym (append_assoc (reply_text p' (is_head y.0) y.1) _ _)
@@ -82,7 +99,7 @@ line_stop (y ∷ ys) [] r c row is e a = absurd (cc)
 line_stop (y ∷ ys) (x ∷ xs) r c row is e a =
     let tail : arrivals xs ≡ asked ys = cc in
     elim x.reply as (λ o. (is_some o && answered xs) ≡ true
-        → line (y ∷ (ys ++ (r, c) ∷ [])) (o ∷ replies (xs ++ row ∷ [])) ≡ line (y ∷ ys) (o ∷ replies xs)) [
+    → line (y ∷ (ys ++ (r, c) ∷ [])) (o ∷ replies (xs ++ row ∷ [])) ≡ line (y ∷ ys) (o ∷ replies xs)) [
       | None ↦ λ a. absurd (false≢true a)
       | Some p' ↦ λ a. ap (λ t. reply_text p' (is_head y.0) y.1 ++ t) (line_stop ys xs r c row is tail a)
     ] a
@@ -225,8 +242,8 @@ whole_ended service l t rest x u e = record {
 
 -- the bytes are no request
 pub whole_refused : (service : List ℕ) (l : LinkState) (t : Talk) (rest : List ℕ) (code k : ℕ)
-    → k ≡ length (tail_text (Some code)) → Reading service l t rest false [] → IsFault rest code
-    → IsWhole service (with_sent (take k (tail_text (Some code))) l) t
+    → k ≡ length (tail_text rest (Some code)) → Reading service l t rest false [] → IsFault rest code
+    → IsWhole service (with_sent (take k (tail_text rest (Some code))) l) t
 whole_refused service l t rest code k e x f = record {
   requests = x.requests;
   end = Some code;
@@ -236,12 +253,12 @@ whole_refused service l t rest code k e x f = record {
   orderly = x.orderly;
   answers = x.answers;
   over = inr (inr refl);
-  sent = ap₂ (λ a b. a ++ b) (sym (append-nil l.sent) ∙ sym x.sent) (take_all k (tail_text (Some code)) (omega arith));
+  sent = ap₂ (λ a b. a ++ b) (sym (append-nil l.sent) ∙ sym x.sent) (take_all k (tail_text rest (Some code)) (omega arith));
 }
 
 pub carries_refused : (service : List ℕ) (l : LinkState) (t : Talk) (rest : List ℕ) (code k : ℕ)
-    → k ≤ length (tail_text (Some code)) → Reading service l t rest false [] → IsFault rest code
-    → Carries service (with_sent (take k (tail_text (Some code))) l) t
+    → k ≤ length (tail_text rest (Some code)) → Reading service l t rest false [] → IsFault rest code
+    → Carries service (with_sent (take k (tail_text rest (Some code))) l) t
 carries_refused service l t rest code k h x f = record {
   requests = x.requests;
   rest = rest;
@@ -251,16 +268,62 @@ carries_refused service l t rest code k h x f = record {
   orderly = x.orderly;
   tail = Some code;
   fault = (x.answers, x.closes, f);
-  sent = front l.sent (tail_text (Some code)) k h
-      ∙ ap (λ s. take (length (l.sent ++ take k (tail_text (Some code)))) (s ++ tail_text (Some code)))
+  sent = front l.sent (tail_text rest (Some code)) k h
+      ∙ ap (λ s. take (length (l.sent ++ take k (tail_text rest (Some code)))) (s ++ tail_text rest (Some code)))
       (sym (append-nil l.sent) ∙ sym x.sent);
 }
 
 -- the link was shut
 pub carries_shut : (service : List ℕ) (l : LinkState) (t : Talk) → Carries service l t → Carries service (with_shut l) t
-carries_shut service l t x = record { requests = x.requests; rest = x.rest; reads = x.reads; arrived = x.arrived;
-    placed = x.placed; orderly = x.orderly; tail = x.tail; fault = x.fault; sent = x.sent }
+carries_shut service l t x = record {
+  requests = x.requests;
+  rest = x.rest;
+  reads = x.reads;
+  arrived = x.arrived;
+  placed = x.placed;
+  orderly = x.orderly;
+  tail = x.tail;
+  fault = x.fault;
+  sent = x.sent;
+}
 
 pub whole_shut : (service : List ℕ) (l : LinkState) (t : Talk) → IsWhole service l t → IsWhole service (with_shut l) t
-whole_shut service l t x = record { requests = x.requests; end = x.end; of = x.of; arrived = x.arrived;
-    placed = x.placed; orderly = x.orderly; answers = x.answers; over = x.over; sent = x.sent }
+whole_shut service l t x = record {
+  requests = x.requests;
+  end = x.end;
+  of = x.of;
+  arrived = x.arrived;
+  placed = x.placed;
+  orderly = x.orderly;
+  answers = x.answers;
+  over = x.over;
+  sent = x.sent;
+}
+
+-- ---- the empty lines before a request line
+
+-- one more line end is passed over
+pub line_passed : (bytes : List ℕ) (at byte : ℕ) → at < length bytes → byte ≡ get_or bytes at byte
+    → is_line_end byte ≡ true → behind_lines (drop at bytes) ≡ behind_lines (drop (at + 1) bytes)
+unfolding behind_lines
+line_passed [] at byte h is ends = absurd (omega (arith, h))
+line_passed (b ∷ bytes) zero byte h is ends = rw (ap is_line_end (sym is) ∙ ends) refl
+line_passed (b ∷ bytes) (suc at) byte h is ends =
+    let next : suc at + 1 ≡ suc (at + 1) = omega arith in
+    line_passed bytes at byte (omega (arith, h)) is ends ∙ ap (λ k. behind_lines (drop k (b ∷ bytes))) (sym next)
+
+-- here no further line end stands
+pub line_begun : (bytes : List ℕ) (at byte : ℕ) → at < length bytes → byte ≡ get_or bytes at byte
+    → is_line_end byte ≡ false → behind_lines (drop at bytes) ≡ drop at bytes
+unfolding behind_lines
+line_begun [] at byte h is ends = absurd (omega (arith, h))
+line_begun (b ∷ bytes) zero byte h is ends = rw (ap is_line_end (sym is) ∙ ends) refl
+line_begun (b ∷ bytes) (suc at) byte h is ends = line_begun bytes at byte (omega (arith, h)) is ends
+
+-- behind all bytes nothing stands
+pub lines_only : (bytes : List ℕ) (at : ℕ) → length bytes ≤ at → behind_lines (drop at bytes) ≡ drop at bytes
+unfolding behind_lines
+lines_only [] zero h = refl
+lines_only [] (suc at) h = refl
+lines_only (b ∷ bytes) zero h = absurd (omega (arith, h))
+lines_only (b ∷ bytes) (suc at) h = lines_only bytes at (omega (arith, h))

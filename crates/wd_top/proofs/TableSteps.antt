@@ -38,7 +38,7 @@ pub moves_on : (seat : Seat) (n : LinkNo) (sockets : List Socket) (run run1 run2
 moves_on seat n sockets run run1 run2 i t t1 t2 j j' gone live h d0 =
     let s : List ℕ = service_at sockets run.socket in
     let d : Handles seat n s run1 run2 i end.Open t1 t2 j j' gone =
-        subst (λ k. Handles seat n (service_at sockets k) run1 run2 i end.Open t1 t2 j j' gone) h.same.1 d0 in
+    subst (λ k. Handles seat n (service_at sockets k) run1 run2 i end.Open t1 t2 j j' gone) h.same.1 d0 in
     record {
       change = λ l. d.change (h.change l);
       tells = d.tells ∙ ap (on_link n d.change) h.tells ∙ twice n h.change d.change t;
@@ -46,21 +46,23 @@ moves_on seat n sockets run run1 run2 i t t1 t2 j j' gone live h d0 =
       socket = d.same.1 ∙ h.same.1;
       others = d.others;
       here = λ l o. subst (λ x. TendedAs x s run2 (d.change (h.change l)) (talk seat.0 n.0 j') gone)
-          (sym (d.same.0 ∙ h.same.0 ∙ live))
-          ((d.stands (h.change l)).0 ∙ (h.stands l).0
-              ∙ o.0, d.after (h.change l) (h.known s l (talk seat.0 n.0 j) o.1));
+          (sym (d.same.0 ∙ h.same.0 ∙ live)) (
+            (d.stands (h.change l)).0 ∙ (h.stands l).0
+                ∙ o.0,
+            d.after (h.change l) (h.known s l (talk seat.0 n.0 j) o.1),
+          );
     }
 
 pub moves_over : (seat : Seat) (n : LinkNo) (sockets : List Socket) (run run1 run2 : LinkRun) (conn : Link) (i : Heard)
     (t t1 t2 t3 : Told) (j j' : List Entry) (gone gone' : Type 0) → Hears n run run1 i t t1
     → Handles seat n (service_at sockets run1.socket) run1 run2 i end.Over t1 t2 j j' gone → t3 ≡ shut_on n t2
     → (gone → gone') → Moves seat n (service_at sockets run.socket) run (record run2 { stage = Shut; conn = conn }) t t3
-        j j'
+    j j'
     gone'
 moves_over seat n sockets run run1 run2 conn i t t1 t2 t3 j j' gone gone' h d0 e stays =
     let s : List ℕ = service_at sockets run.socket in
     let d : Handles seat n s run1 run2 i end.Over t1 t2 j j' gone =
-        subst (λ k. Handles seat n (service_at sockets k) run1 run2 i end.Over t1 t2 j j' gone) h.same.1 d0 in
+    subst (λ k. Handles seat n (service_at sockets k) run1 run2 i end.Over t1 t2 j j' gone) h.same.1 d0 in
     record {
       change = λ l. with_shut (d.change (h.change l));
       tells = e ∙ ap (shut_on n) (d.tells ∙ ap (on_link n d.change) h.tells ∙ twice n h.change d.change t)
@@ -68,9 +70,11 @@ moves_over seat n sockets run run1 run2 conn i t t1 t2 t3 j j' gone gone' h d0 e
       origin = λ l. (d.stands (h.change l)).1 ∙ (h.stands l).1;
       socket = d.same.1 ∙ h.same.1;
       others = d.others;
-      here = λ l o. let a = d.after (h.change l) (h.known s l (talk seat.0 n.0 j) o.1) in
-          (ap (λ k. k + 1) ((d.stands (h.change l)).0 ∙ (h.stands l).0 ∙ o.0), carries_shut s _ _ a.0,
-              λ ng. whole_shut s _ _ (a.1 (λ g. ng (stays g))));
+      here = λ l o. let a = d.after (h.change l) (h.known s l (talk seat.0 n.0 j) o.1) in (
+        ap (λ k. k + 1) ((d.stands (h.change l)).0 ∙ (h.stands l).0 ∙ o.0),
+        carries_shut s _ _ a.0,
+        λ ng. whole_shut s _ _ (a.1 (λ g. ng (stays g))),
+      );
     }
 
 left_carries : (e : StepEnd) (s : List ℕ) (l : LinkState) (t : Talk) (run : LinkRun) (gone : Type 0) → IsLeft e
@@ -85,7 +89,7 @@ pub moves_left : (seat : Seat) (n : LinkNo) (sockets : List Socket) (run run1 ru
 moves_left seat n sockets run run1 run2 i e t t1 t2 j j' gone left h d0 =
     let s : List ℕ = service_at sockets run.socket in
     let d : Handles seat n s run1 run2 i e t1 t2 j j' gone =
-        subst (λ k. Handles seat n (service_at sockets k) run1 run2 i e t1 t2 j j' gone) h.same.1 d0 in
+    subst (λ k. Handles seat n (service_at sockets k) run1 run2 i e t1 t2 j j' gone) h.same.1 d0 in
     record {
       change = λ l. d.change (h.change l);
       tells = d.tells ∙ ap (on_link n d.change) h.tells ∙ twice n h.change d.change t;
@@ -113,9 +117,9 @@ among : (seat : Seat) (n : LinkNo) (i : ℕ) (sockets : List Socket) (change : L
     (j j' : List Entry) (gone gone' : LinkNo → Type 0) (runs : List LinkRun) (ls : List LinkState) → n.0 ≡ i + 1
     → i < length runs → Others seat n j j' → Stays gone gone'
     → ((l : LinkState) → IsTended sockets (run_at runs i) l (talk seat.0 (i + 1) j) (gone' (number i))
-        → IsTended sockets run' (change l) (talk seat.0 (i + 1) j') (gone' (number i)))
+    → IsTended sockets run' (change l) (talk seat.0 (i + 1) j') (gone' (number i)))
     → AreTended seat sockets gone j runs ls
-        → AreTended seat sockets gone' j' (set runs i run') (set ls i (change (get_or ls i blank)))
+    → AreTended seat sockets gone' j' (set runs i run') (set ls i (change (get_or ls i blank)))
 among seat n i sockets change run' j j' gone gone' runs ls e h others stays here (same, all) =
     (length-set ls i _ ∙ same ∙ sym (length-set runs i run'), each)
   where
@@ -127,22 +131,22 @@ among seat n i sockets change run' j j' gone gone' runs ls e h others stays here
         elim (cases_eq k i) [
           | inl q ↦ subst (λ m. IsTended sockets (run_at (set runs i run') m)
               (get_or (set ls i (change (get_or ls i blank))) m blank) (talk seat.0 (m + 1) j') (gone' (number m)))
-                  (sym q)
+              (sym q)
               (subst (λ r. IsTended sockets r (get_or (set ls i (change (get_or ls i blank))) i blank)
-                  (talk seat.0 (i + 1) j') (gone' (number i))) (sym (get_or-set_same runs i run' blank_run h))
+              (talk seat.0 (i + 1) j') (gone' (number i))) (sym (get_or-set_same runs i run' blank_run h))
               (subst (λ l. IsTended sockets run' l (talk seat.0 (i + 1) j') (gone' (number i)))
-                  (sym (get_or-set_same ls i (change (get_or ls i blank)) blank (omega (arith, h, same))))
+              (sym (get_or-set_same ls i (change (get_or ls i blank)) blank (omega (arith, h, same))))
               (here (get_or ls i blank)
-                  (is_tended_stays sockets (run_at runs i) _ _ (gone (number i)) (gone' (number i)) (stays (number i))
-                  (all i h)))))
+              (is_tended_stays sockets (run_at runs i) _ _ (gone (number i)) (gone' (number i)) (stays (number i))
+              (all i h)))))
           | inr ne ↦ subst (λ r. IsTended sockets r (get_or (set ls i (change (get_or ls i blank))) k blank)
               (talk seat.0 (k + 1) j') (gone' (number k))) (sym (get_or-set_other runs i k run' blank_run ne))
               (subst (λ l. IsTended sockets (run_at runs k) l (talk seat.0 (k + 1) j') (gone' (number k)))
-                  (sym (get_or-set_other ls i k (change (get_or ls i blank)) blank ne))
+              (sym (get_or-set_other ls i k (change (get_or ls i blank)) blank ne))
               (subst (λ t. IsTended sockets (run_at runs k) (get_or ls k blank) t (gone' (number k)))
-                  (sym (others (k + 1) (λ x. ne (omega (arith, x, e)))))
+              (sym (others (k + 1) (λ x. ne (omega (arith, x, e)))))
               (is_tended_stays sockets (run_at runs k) _ _ (gone (number k)) (gone' (number k)) (stays (number k))
-                  (all k within))))
+              (all k within))))
         ]
 
 -- a link of the table is not outside of it
@@ -155,8 +159,8 @@ pub tended_move : (seat : Seat) (n : LinkNo) (i : ℕ) (sockets : List Socket) (
     (u u' gone gone' : LinkNo → Type 0) (runs : List LinkRun) → n.0 ≡ i + 1 → i < length runs → run ≡ run_at runs i
     → run.stage ≡ Open
     → Tended seat sockets t u gone j runs → Moves seat n (service_at sockets run.socket) run run' t new j j' (gone' n)
-        → Stays gone gone' → ((m : LinkNo) → m.0 ≢ n.0 → u m → u' m) → (run'.stage ≡ Open → u' n)
-        → Tended seat sockets new u' gone' j' (set runs i run')
+    → Stays gone gone' → ((m : LinkNo) → m.0 ≢ n.0 → u m → u' m) → (run'.stage ≡ Open → u' n)
+    → Tended seat sockets new u' gone' j' (set runs i run')
 tended_move seat n i sockets run run' t new j j' u u' gone gone' runs e h is live all m stays keeps handle = record {
   links = subst (λ k. IfSome k.links (AreTended seat sockets gone' j' (set runs i run'))) (sym m.tells)
       (step t.links all.links);
@@ -184,15 +188,14 @@ tended_move seat n i sockets run run' t new j j' u u' gone gone' runs e h is liv
         → IsTended sockets run' (m.change l) (talk seat.0 (i + 1) j') (gone' (number i))
     here l x = subst (λ k. IsTended sockets run' (m.change l) (talk seat.0 k j') (gone' (record { 0 = k }))) e
         (let y : IsTended sockets run l (talk seat.0 n.0 j) (gone' n) = subst
-            (λ r. IsTended sockets r l (talk seat.0 n.0 j) (gone' n)) (sym is)
-            (subst (λ k. IsTended sockets (run_at runs i) l (talk seat.0 k j) (gone' (record { 0 = k }))) (sym e) x) in
-                (
+        (λ r. IsTended sockets r l (talk seat.0 n.0 j) (gone' n)) (sym is)
+        (subst (λ k. IsTended sockets (run_at runs i) l (talk seat.0 k j) (gone' (record { 0 = k }))) (sym e) x) in (
           m.origin l ∙ y.0 ∙ ap AtSocket (sym m.socket),
           subst (λ k. TendedAs run'.stage (service_at sockets k) run' (m.change l) (talk seat.0 n.0 j') (gone' n))
               (sym m.socket)
               (m.here l (subst (λ g. TendedAs g (service_at sockets run.socket) run l (talk seat.0 n.0 j) (gone' n))
-                  live
-                  y.1)),
+              live
+              y.1)),
         ))
 
     step : (o : Option (List LinkState)) → IfSome o (AreTended seat sockets gone j runs)
@@ -201,7 +204,7 @@ tended_move seat n i sockets run run' t new j j' u u' gone gone' runs e h is liv
     step None c = tt
     step (Some ls) c = let at : n.0 - 1 ≡ i = omega (arith, e) in
         subst (λ k. AreTended seat sockets gone' j' (set runs i run') (set ls k (m.change (get_or ls k blank))))
-            (sym at)
+        (sym at)
         (among seat n i sockets m.change run' j j' gone gone' runs ls e h m.others stays here c)
 
 default_free : (xs : List LinkRun) (i : ℕ) (d e : LinkRun) → i < length xs → get_or xs i d ≡ get_or xs i e
@@ -228,8 +231,11 @@ tended_same seat sockets t new u u' gone gone' j runs e given keeps stays all = 
     step : (o : Option (List LinkState)) → IfSome o (AreTended seat sockets gone j runs)
         → IfSome o (AreTended seat sockets gone' j runs)
     step None c = tt
-    step (Some ls) c = (c.0, λ i h. is_tended_stays sockets (run_at runs i) _ _ (gone (number i)) (gone' (number i))
-        (stays (number i)) (c.1 i h))
+    step (Some ls) c = (
+      c.0,
+      λ i h. is_tended_stays sockets (run_at runs i) _ _ (gone (number i)) (gone' (number i))
+          (stays (number i)) (c.1 i h),
+    )
 
 carried : (g : Stage) (s : List ℕ) (run : LinkRun) (l : LinkState) (t : Talk) (gone : Type 0)
     → TendedAs g s run l t gone → Carries s l t
@@ -279,15 +285,27 @@ tended_done seat sockets t u gone j runs all shut = step t.links all.links
         let within : i < length runs = rw (← c.0) h in
         let o = (c.1 i within).0 in
         let x : TendedAs Shut (service_at sockets (run_at runs i).socket) (run_at runs i) (get_or ls i blank)
-            (talk seat.0 (i + 1) j) (gone (number i)) =
-            subst (λ g. TendedAs g (service_at sockets (run_at runs i).socket) (run_at runs i) (get_or ls i blank)
-            (talk seat.0 (i + 1) j) (gone (number i))) (shut i within) (c.1 i within).1 in
+        (talk seat.0 (i + 1) j) (gone (number i)) =
+        subst (λ g. TendedAs g (service_at sockets (run_at runs i).socket) (run_at runs i) (get_or ls i blank)
+        (talk seat.0 (i + 1) j) (gone (number i))) (shut i within) (c.1 i within).1 in
         (x.0, λ ng. subst (λ y. WholeFrom sockets y (get_or ls i blank) (talk seat.0 (i + 1) j)) (sym o) (x.2 ng))
 
 -- a new link
 opened_new : (s : List ℕ) (k : SockNo) → Opened s (new_link (AtSocket k)) no_talk (new_run k)
-opened_new s k = record { reading = record { requests = []; reads = refl; closes = refl; arrived = refl; placed = tt;
-    orderly = refl; answers = refl; sent = refl }; phase = refl; waits = λ _. unfinished_nothing }
+opened_new s k = record {
+  reading = record {
+    requests = [];
+    reads = refl;
+    closes = refl;
+    arrived = refl;
+    placed = tt;
+    orderly = refl;
+    answers = refl;
+    sent = refl;
+  };
+  phase = refl;
+  waits = λ _. unfinished_nothing;
+}
 
 last_run : (xs : List LinkRun) (x : LinkRun) → run_at (xs ++ x ∷ []) (length xs) ≡ x
 last_run [] x = refl
@@ -359,20 +377,22 @@ tended_new seat k m sockets t new u u' gone gone' j runs number_is place tells u
         | inl below ↦ subst (λ r. IsTended sockets r (get_or (ls ++ fresh ∷ []) i blank) (talk seat.0 (i + 1) j)
             (gone' (number i))) (sym (old_run runs (new_run k) i below))
             (subst (λ l. IsTended sockets (run_at runs i) l (talk seat.0 (i + 1) j) (gone' (number i)))
-                (sym (old_link ls fresh i (omega (arith, below, same))))
+            (sym (old_link ls fresh i (omega (arith, below, same))))
             (is_tended_stays sockets (run_at runs i) _ _ (gone (number i)) (gone' (number i)) (stays (number i))
-                (each i below)))
+            (each i below)))
         | inr last ↦ subst (λ x. IsTended sockets (run_at (runs ++ new_run k ∷ []) x)
             (get_or (ls ++ fresh ∷ []) x blank) (talk seat.0 (x + 1) j) (gone' (number x))) (sym last)
             (subst (λ r. IsTended sockets r (get_or (ls ++ fresh ∷ []) (length runs) blank)
-                (talk seat.0 (length runs + 1) j)
-                (gone' (number (length runs)))) (sym (last_run runs (new_run k)))
+            (talk seat.0 (length runs + 1) j)
+            (gone' (number (length runs)))) (sym (last_run runs (new_run k)))
             (subst (λ l. IsTended sockets (new_run k) l (talk seat.0 (length runs + 1) j)
-                (gone' (number (length runs))))
-                (sym (ap (λ x. get_or (ls ++ fresh ∷ []) x blank) (sym same) ∙ last_link ls fresh))
+            (gone' (number (length runs))))
+            (sym (ap (λ x. get_or (ls ++ fresh ∷ []) x blank) (sym same) ∙ last_link ls fresh))
             (subst (λ y. IsTended sockets (new_run k) fresh y (gone' (number (length runs))))
-                (sym (all.quiet (length runs + 1) (inr (omega arith)))) (refl,
-                (refl, opened_new (service_at sockets k) k)))))
+            (sym (all.quiet (length runs + 1) (inr (omega arith)))) (
+              refl,
+              (refl, opened_new (service_at sockets k) k),
+            ))))
       ],
     )
 
@@ -381,13 +401,13 @@ pub tended_first : (seat : Seat) (sockets : List Socket) (t : Told) (u gone : Li
     → runs ≡ [] → j ≡ [] → IfSome t.links (λ links. links ≡ []) → t.given ≡ 0 → Tended seat sockets t u gone j runs
 tended_first seat sockets t u gone j runs e f links given =
     subst (λ r. Tended seat sockets t u gone j r) (sym e)
-        (subst (λ x. Tended seat sockets t u gone x []) (sym f) (record {
-  links = step t.links links;
-  handle = λ i h. absurd (omega (arith, h));
-  places = λ i h. absurd (omega (arith, h));
-  quiet = λ n h. silent seat.0 n;
-  given = given;
-}))
+    (subst (λ x. Tended seat sockets t u gone x []) (sym f) (record {
+      links = step t.links links;
+      handle = λ i h. absurd (omega (arith, h));
+      places = λ i h. absurd (omega (arith, h));
+      quiet = λ n h. silent seat.0 n;
+      given = given;
+    }))
   where
     step : (o : Option (List LinkState)) → IfSome o (λ links. links ≡ []) → IfSome o (AreTended seat sockets gone [] [])
     step None c = tt

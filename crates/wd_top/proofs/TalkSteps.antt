@@ -113,9 +113,10 @@ below_snoc n m (r ∷ rs) row h k (x, b) = (omega arith, below_snoc n m rs row h
 
 below_reply : (n q : ℕ) (reply : Reply) (rows : List Row) → Below n rows → Below n (with_reply q reply rows)
 below_reply n q reply [] b = tt
-below_reply n q reply (r ∷ rs) (x, b) =
-    (elim (nat_eq r.req q) as (λ t. (cond t (record r { reply = Some reply }) r).req ≤ n) [ true ↦ x | false ↦ x ],
-    below_reply n q reply rs b)
+below_reply n q reply (r ∷ rs) (x, b) = (
+  elim (nat_eq r.req q) as (λ t. (cond t (record r { reply = Some reply }) r).req ≤ n) [ true ↦ x | false ↦ x ],
+  below_reply n q reply rs b,
+)
 
 below_reply_if : (n q : ℕ) (reply : Option Reply) (rows : List Row) → Below n rows
     → Below n (with_reply_if q reply rows)
@@ -127,8 +128,7 @@ below_from : (s n m : ℕ) (t : Talk) (es : List Entry) → NumberedFrom m es �
 below_from s n m t [] x b = b
 below_from s n m t (Arrive seat q service origin allow request ∷ es) (number, x) b =
     below_from s n (m + 1) (talk_step s n t (Arrive seat q service origin allow request)) es x
-    (elim (came_over s n seat origin) as (λ c. Below (m + 1) (cond c (add_row (asked_row q service request) t) t).rows)
-        [
+    (elim (came_over s n seat origin) as (λ c. Below (m + 1) (cond c (add_row (asked_row q service request) t) t).rows) [
       | true ↦ below_snoc m (m + 1) t.rows _ (omega arith) (omega arith) b
       | false ↦ below_more m (m + 1) t.rows (omega arith) b
     ])
@@ -195,7 +195,7 @@ orderly_means s n j o a b seat q service origin allow request e here =
     let u : Talk = talk_from s n no_talk a in
     let arrival : Entry = Arrive seat q service origin allow request in
     let whole : (talk_from s n (talk_step s n u arrival) b).orderly ≡ true =
-        ap (λ t. t.orderly) (sym (ap (talk_from s n no_talk) e ∙ talk_from_join s n no_talk a (arrival ∷ b))) ∙ o in
+    ap (λ t. t.orderly) (sym (ap (talk_from s n no_talk) e ∙ talk_from_join s n no_talk a (arrival ∷ b))) ∙ o in
     let step : (talk_step s n u arrival).orderly ≡ true = earlier s n (talk_step s n u arrival) b whole in
     (first_of_both u.orderly (answered u.rows)
-        (subst (λ c. (cond c (add_row (asked_row q service request) u) u).orderly ≡ true) here step)).1
+    (subst (λ c. (cond c (add_row (asked_row q service request) u) u).orderly ≡ true) here step)).1

@@ -1,6 +1,8 @@
 -- A session: what the links of a port carry, by the journal.
 use Rattle.std.specs.Prelude.{◌≡◌, ◌⊎◌, ℕ, ◌<◌, ◌+◌, Bool, true, false, List, [], ◌∷◌, ◌++◌, map, length, take, Option}
-use Rattle.std.specs.Prelude.{Some, None, IfSome, IsSome, slice_index_or, bytes_eq, codes}
+use Rattle.std.specs.Prelude.{Some, None, IfSome, IsSome, slice_index_or, bytes_eq, nat_eq, codes, ◌||◌, ◌==◌}
+use Rattle.std.specs.Prelude.{if◌then◌else◌}
+use Rattle.std.specs.List.{starts_with}
 use Rattle.wd_base.specs.declared.ids.LinkNo.{LinkNo}
 use Rattle.wd_base.specs.declared.ids.Seat.{Seat}
 use Rattle.wd_base.specs.declared.ids.SockNo.{SockNo}
@@ -21,10 +23,23 @@ use Rattle.wd_top.specs.Talk.{Row, Talk, answered, no_talk, talk, TakesTurns}
 abbrev pub is_head : ReqData → Bool
 is_head request = bytes_eq request.method (codes "HEAD")
 
--- the text that refuses bytes that are no request
-abbrev pub tail_text : Option ℕ → List ℕ
-tail_text None = []
-tail_text (Some code) = reply_text (bad_reply code) false true
+-- CR or LF, which end a line (RFC 9112, section 2.2)
+abbrev pub is_line_end : ℕ → Bool
+is_line_end byte = byte == 13 || byte == 10
+
+-- the bytes behind the empty lines that may stand before a request line (RFC 9112, section 2.2)
+unfoldable pub behind_lines : List ℕ → List ℕ
+behind_lines [] = []
+behind_lines (b ∷ rest) = if is_line_end b then behind_lines rest else b ∷ rest
+
+-- the bytes begin a request line with the method HEAD (RFC 9112, section 3)
+abbrev pub asks_head : List ℕ → Bool
+asks_head bytes = starts_with nat_eq (behind_lines bytes) (codes "HEAD ")
+
+-- the text that refuses bytes that are no request: where they ask for a head alone, it has no body
+abbrev pub tail_text : List ℕ → Option ℕ → List ℕ
+tail_text rest None = []
+tail_text rest (Some code) = reply_text (bad_reply code) (asks_head rest) true
 
 -- what the requests ask
 abbrev pub asked : Requests → List ReqData
@@ -62,7 +77,7 @@ pub record Carries (service : List ℕ) (link : LinkState) (t : Talk) : Type 0 w
   pub orderly : t.orderly ≡ true
   pub tail : Option ℕ
   pub fault : IfSome tail (λ code. (answered t.rows ≡ true) × (closing requests ≡ false) × IsFault rest code)
-  pub sent : link.sent ≡ take (length link.sent) (line requests (replies t.rows) ++ tail_text tail)
+  pub sent : link.sent ≡ take (length link.sent) (line requests (replies t.rows) ++ tail_text rest tail)
 
 -- At the end: the link was read to its end, to a request that closes, or to bytes that are no request. All requests of
 -- its bytes arrived, in order, at its service, one after the other, and have their replies. It carries just its line.
@@ -75,7 +90,7 @@ pub record IsWhole (service : List ℕ) (link : LinkState) (t : Talk) : Type 0 w
   pub orderly : t.orderly ≡ true
   pub answers : answered t.rows ≡ true
   pub over : (link.ended ≡ true) ⊎ ((closing requests ≡ true) ⊎ IsSome end)
-  pub sent : link.sent ≡ line requests (replies t.rows) ++ tail_text end
+  pub sent : link.sent ≡ line requests (replies t.rows) ++ tail_text of.rest end
 
 -- over a link that the port made itself no request comes
 abbrev pub CarriesFrom : List Socket → LinkOrigin → LinkState → Talk → Type 0

@@ -86,8 +86,8 @@ abbrev pub Known : Heard → List ℕ → LinkState → Talk → LinkRun → Typ
 Known (heard.Fed fed.Later) service link t run = Reading service link t run.conn.queue false []
     × (run.conn.phase ≡ phase.Open) × IsUnfinished run.conn.queue
 Known (heard.Fed (fed.Request r close)) service link t run = Asks service link t r close run
-Known (heard.Fed (fed.Bad code)) service link t run = (rest : List ℕ) × Reading service link t rest false []
-    × IsFault rest code
+Known (heard.Fed (fed.Bad code)) service link t run = Reading service link t run.conn.queue false []
+    × IsFault run.conn.queue code
 Known heard.Nothing service link t run = Opened service link t run
 Known heard.End service link t run = (rest : List ℕ) × Reading service link t rest false [] × IsUnfinished rest
     × (link.ended ≡ true)
@@ -133,10 +133,10 @@ abbrev pub Replies : Seat → LinkNo → List ℕ → ReqData → Bool → StepE
     → List Entry → Type 0
 Replies seat n service r close e gone old new j j' =
     ((reply : Reply) × (result : Result (Unit {0}) Failed) × Answers seat n service r j j' (Ok (Some reply))
-        × Sends n (reply_text reply (is_head r) close) result old new × (e ≡ end_of result close)
-        × (IsErrOf result Fault → gone))
+    × Sends n (reply_text reply (is_head r) close) result old new × (e ≡ end_of result close)
+    × (IsErrOf result Fault → gone))
     ⊎ (Others seat n j j' × ((talk seat.0 n.0 j' ≡ talk seat.0 n.0 j) ⊎ Adds seat n service r None j j') × (new ≡ old)
-        × IsLeft e)
+    × IsLeft e)
 
 -- what is known of a link after a step
 abbrev pub After : StepEnd → List ℕ → LinkState → Talk → LinkRun → Type 0 → Type 0

@@ -85,7 +85,7 @@ abbrev pub TakesTurns : ℕ → ℕ → List Entry → Type 0
 TakesTurns s n journal = (before after : List Entry) (seat : Seat) (q : Req) (service : List ℕ) (origin : Origin)
     (allow : ℕ) (request : ReqData)
     → journal ≡ before ++ Arrive seat q service origin allow request ∷ after → came_over s n seat origin ≡ true
-        → answered (talk s n before).rows ≡ true
+    → answered (talk s n before).rows ≡ true
 
 -- the arrivals have the numbers from n + 1 on, in order
 abbrev pub NumberedFrom : ℕ → List Entry → Type 0

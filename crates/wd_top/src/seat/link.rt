@@ -3,7 +3,7 @@ ghost use Rattle.wd_ports.specs.Links.{Keeps, Stays};
 ghost use Rattle.wd_ports.specs.Send.{Sends};
 ghost use Rattle.wd_top.specs.declared.seat.link.Heard.{Heard as HeardIs};
 ghost use Rattle.http_text.specs.ReplyText.{reply_text};
-ghost use Rattle.wd_top.specs.Session.{tail_text, is_head};
+ghost use Rattle.wd_top.specs.Session.{tail_text, is_head, asks_head, is_line_end};
 ghost use Rattle.wd_top.specs.Steps.{Knows, SameButConn, Hears, RepliesOn, HandlesOn, NoneFell, end_of};
 
 use crate::board::Board;
@@ -184,11 +184,37 @@ fn reply_to<P: Port, I: Isolate>(
     }
 }
 
-/// Sends the text of a refusal.
+/// CR or LF.
+fn is_line_end(byte: u8) -> bool
+    ensures { result ≡ is_line_end byte }
+{
+    byte == b'\r' || byte == b'\n'
+}
+
+/// The bytes begin a request line with the method HEAD, behind the empty lines that may stand
+/// before one (RFC 9112, sections 2.2 and 3).
+#[tactic(auto, using(crate::proofs::SessionSteps::line_begun, crate::proofs::SessionSteps::lines_only))]
+fn asks_head(bytes: &[u8]) -> bool
+    ensures { result ≡ asks_head bytes.now }
+{
+    let mut at = 0;
+    while at < bytes.len() && is_line_end(bytes[at]) {
+        at += 1;
+    }
+    bytes[at..].starts_with(b"HEAD ")
+}
+
+/// Sends the text that refuses these bytes, without its body where they ask for a head alone.
 #[tactic(auto, using(wd_ports::proofs::OneLink::sent_nothing, crate::proofs::FaultSteps::none_fell_same, crate::proofs::FaultSteps::written))]
-fn refuse<P: Port>(port: &mut P, alloc: Global, link: LinkNo, code: u16) -> Result<(), Failed>
+fn refuse<P: Port>(
+    port: &mut P,
+    alloc: Global,
+    link: LinkNo,
+    rest: &[u8],
+    code: u16,
+) -> Result<(), Failed>
     requires usable { P.usable port.old link }
-    ensures sends { Sends link (tail_text (Some code)) result (P.told port.old) (P.told port.new) }
+    ensures sends { Sends link (tail_text rest.now (Some code)) result (P.told port.old) (P.told port.new) }
     ensures lost { IsErrOf result Failed.Fault → P.gone port.new link }
     ensures keeps { Keeps (P.usable port.old) (P.side port.old) (P.usable port.new) (P.side port.new) }
     ensures stays { Stays (P.gone port.old) (P.gone port.new) }
@@ -196,7 +222,7 @@ fn refuse<P: Port>(port: &mut P, alloc: Global, link: LinkNo, code: u16) -> Resu
 {
     match bad_reply(alloc, code) {
         Err(NoMemory) => Err(Failed::NoMemory),
-        Ok(reply) => send(port, alloc, link, &reply, false, true),
+        Ok(reply) => send(port, alloc, link, &reply, asks_head(rest), true),
     }
 }
 
@@ -240,7 +266,7 @@ pub fn handle<P: Port, I: Isolate>(
             reply_to(port, alloc, board, link, run.socket, request, close)
         }
         Heard::Fed(Fed::Bad(code)) => {
-            let refused = refuse(port, alloc, link, code);
+            let refused = refuse(port, alloc, link, run.conn.unread(), code);
             end_of(refused, true)
         }
         Heard::Nothing => StepEnd::Open,

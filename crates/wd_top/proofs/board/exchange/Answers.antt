@@ -11,14 +11,14 @@ use Rattle.wd_top.proofs.board.exchange.Goals as goal
 pub returns-in_default-clause-answers : goal.returns-in_default-clause-answers
 returns-in_default-clause-answers g c =
     rw c.in_ok-arrive.ensures.entries (asked_only c.args.seat (record { 0 = c.args.count + 1 }) c.args.service.now
-        c.args.link
+    c.args.link
     c.args.request c.args.entries.now)
 
 pub returns-in_default-clause-run : goal.returns-in_default-clause-run
 returns-in_default-clause-run g c =
     rw c.in_ok-arrive.ensures.entries (run_arrived g.I.Isolate.means c.args.world.now c.args.machine.now
     c.args.entries.now c.args.count c.args.seat (record { 0 = c.args.count + 1 }) c.args.service.now c.args.link
-        c.args.request
+    c.args.request
     c.requires.run c.requires.stands refl c.requires.known c.requires.public c.requires.below)
 
 pub returns-in_default-clause-stands : goal.returns-in_default-clause-stands
@@ -31,7 +31,7 @@ returns-in_default-clause-stands g c = rw (c.in_ok-arrive.ensures.entries, c.in_
 pub begin-requires-after_bounds : goal.begin-requires-after_bounds
 begin-requires-after_bounds g c κs within =
     rw c.in_ok-arrive.ensures.state
-        (arrival_places c.args.machine.now c.args.count c.args.seat (record { 0 = c.args.count + 1 })
+    (arrival_places c.args.machine.now c.args.count c.args.seat (record { 0 = c.args.count + 1 })
     c.args.service.now c.args.link c.args.request c.in-Some.place c.requires.stands.rests refl
     (ap (λ t. position_from (is_worker t) 0 c.args.machine.now.workers) (sym c.as_slice.ensures)
     ∙ sym c.worker_place-worker.ensures ∙ c.in-Some.is))
@@ -42,19 +42,19 @@ returns-in_err-begin-clause-answers g c = unanswered c.args.seat c.args.link c.a
     c.begin.new.entries c.from_residual-in_err-begin.result c.from_residual-in_err-begin.ensures.0
     (λ x. rw (c.in_err-begin.ensures.err, c.in_ok-arrive.ensures.entries)
     (asks x c.args.seat (record { 0 = c.args.count + 1 }) c.args.service.now c.args.link c.args.request
-        c.args.entries.now))
+    c.args.entries.now))
 
 pub returns-in_err-begin-clause-run : goal.returns-in_err-begin-clause-run
 returns-in_err-begin-clause-run g c = rw (c.in_err-begin.ensures.err, c.in_ok-arrive.ensures.entries)
     (run_arrived g.I.Isolate.means c.args.world.now c.args.machine.now c.args.entries.now c.args.count
     c.args.seat (record { 0 = c.args.count + 1 }) c.args.service.now c.args.link c.args.request c.requires.run
-        c.requires.stands
+    c.requires.stands
     refl c.requires.known c.requires.public c.requires.below)
 
 pub finish-requires-after_bounds : goal.finish-requires-after_bounds
 finish-requires-after_bounds g c κs within = places_begun g.I.Isolate.means c.args.machine.now c.begin.new.machine
     c.args.count c.args.seat (record { 0 = c.args.count + 1 }) c.args.service.now c.args.link c.args.request
-        c.in-Some.place
+    c.in-Some.place
     c.requires.stands.rests refl (ap (λ t. position_from (is_worker t) 0 c.args.machine.now.workers)
     (sym c.as_slice.ensures) ∙ sym c.worker_place-worker.ensures ∙ c.in-Some.is) (c.in_ok-begin.ensures.state
     ∙ ap (λ t. begun g.I.Isolate.means t c.args.seat (record { 0 = c.args.count + 1 })) c.in_ok-arrive.ensures.state)
@@ -65,11 +65,11 @@ returns-in_err-reply-clause-answers g c = unanswered c.args.seat c.args.link c.a
     c.finish.new.entries c.from_residual-in_err-reply.result c.from_residual-in_err-reply.ensures.0
     (λ x. (exchanged g.I.Isolate.means c.args.world.now c.args.machine.now c.begin.new.machine c.finish.new.machine
     c.args.entries.now c.begin.new.entries c.finish.new.entries c.args.count c.args.seat
-        (record { 0 = c.args.count + 1 })
+    (record { 0 = c.args.count + 1 })
     c.args.service.now c.args.link c.args.request c.in-Some.place (Err x) c.requires.run.numbered
     (run_arrived g.I.Isolate.means c.args.world.now c.args.machine.now c.args.entries.now c.args.count
     c.args.seat (record { 0 = c.args.count + 1 }) c.args.service.now c.args.link c.args.request c.requires.run
-        c.requires.stands
+    c.requires.stands
     refl c.requires.known c.requires.public c.requires.below) c.requires.stands refl
     (ap (λ t. position_from (is_worker t) 0 c.args.machine.now.workers) (sym c.as_slice.ensures)
     ∙ sym c.worker_place-worker.ensures ∙ c.in-Some.is) (c.in_ok-begin.ensures.state
@@ -82,11 +82,11 @@ pub returns-in_err-reply-clause-run : goal.returns-in_err-reply-clause-run
 returns-in_err-reply-clause-run g c =
     (exchanged g.I.Isolate.means c.args.world.now c.args.machine.now c.begin.new.machine c.finish.new.machine
     c.args.entries.now c.begin.new.entries c.finish.new.entries c.args.count c.args.seat
-        (record { 0 = c.args.count + 1 })
+    (record { 0 = c.args.count + 1 })
     c.args.service.now c.args.link c.args.request c.in-Some.place (Err (record {})) c.requires.run.numbered
     (run_arrived g.I.Isolate.means c.args.world.now c.args.machine.now c.args.entries.now c.args.count
     c.args.seat (record { 0 = c.args.count + 1 }) c.args.service.now c.args.link c.args.request c.requires.run
-        c.requires.stands
+    c.requires.stands
     refl c.requires.known c.requires.public c.requires.below) c.requires.stands refl
     (ap (λ t. position_from (is_worker t) 0 c.args.machine.now.workers) (sym c.as_slice.ensures)
     ∙ sym c.worker_place-worker.ensures ∙ c.in-Some.is) (c.in_ok-begin.ensures.state
@@ -98,7 +98,7 @@ returns-in_err-reply-clause-run g c =
 pub has_ended-ended-requires : goal.has_ended-ended-requires
 has_ended-ended-requires g c = places_turned g.I.Isolate.means c.args.machine.now c.begin.new.machine
     c.finish.new.machine c.args.count c.args.seat (record { 0 = c.args.count + 1 }) c.args.service.now c.args.link
-        c.args.request
+    c.args.request
     c.in-Some.place c.requires.stands.rests refl (ap (λ t. position_from (is_worker t) 0 c.args.machine.now.workers)
     (sym c.as_slice.ensures) ∙ sym c.worker_place-worker.ensures ∙ c.in-Some.is) (c.in_ok-begin.ensures.state
     ∙ ap (λ t. begun g.I.Isolate.means t c.args.seat (record { 0 = c.args.count + 1 })) c.in_ok-arrive.ensures.state)
@@ -108,11 +108,11 @@ pub returns-clause-answers : goal.returns-clause-answers
 returns-clause-answers g c =
     (exchanged g.I.Isolate.means c.args.world.now c.args.machine.now c.begin.new.machine c.finish.new.machine
     c.args.entries.now c.begin.new.entries c.finish.new.entries c.args.count c.args.seat
-        (record { 0 = c.args.count + 1 })
+    (record { 0 = c.args.count + 1 })
     c.args.service.now c.args.link c.args.request c.in-Some.place (Ok c.in_ok-reply.reply) c.requires.run.numbered
     (run_arrived g.I.Isolate.means c.args.world.now c.args.machine.now c.args.entries.now c.args.count
     c.args.seat (record { 0 = c.args.count + 1 }) c.args.service.now c.args.link c.args.request c.requires.run
-        c.requires.stands
+    c.requires.stands
     refl c.requires.known c.requires.public c.requires.below) c.requires.stands refl
     (ap (λ t. position_from (is_worker t) 0 c.args.machine.now.workers) (sym c.as_slice.ensures)
     ∙ sym c.worker_place-worker.ensures ∙ c.in-Some.is) (c.in_ok-begin.ensures.state
@@ -127,7 +127,7 @@ returns-clause-run g c = (exchanged g.I.Isolate.means c.args.world.now c.args.ma
     c.args.seat (record { 0 = c.args.count + 1 }) c.args.service.now c.args.link c.args.request c.in-Some.place
     (Ok c.in_ok-reply.reply) c.requires.run.numbered (run_arrived g.I.Isolate.means c.args.world.now c.args.machine.now
     c.args.entries.now c.args.count c.args.seat (record { 0 = c.args.count + 1 }) c.args.service.now c.args.link
-        c.args.request
+    c.args.request
     c.requires.run c.requires.stands refl c.requires.known c.requires.public c.requires.below) c.requires.stands refl
     (ap (λ t. position_from (is_worker t) 0 c.args.machine.now.workers) (sym c.as_slice.ensures)
     ∙ sym c.worker_place-worker.ensures ∙ c.in-Some.is) (c.in_ok-begin.ensures.state
@@ -140,11 +140,11 @@ pub returns-clause-stands : goal.returns-clause-stands
 returns-clause-stands g c =
     (exchanged g.I.Isolate.means c.args.world.now c.args.machine.now c.begin.new.machine c.finish.new.machine
     c.args.entries.now c.begin.new.entries c.finish.new.entries c.args.count c.args.seat
-        (record { 0 = c.args.count + 1 })
+    (record { 0 = c.args.count + 1 })
     c.args.service.now c.args.link c.args.request c.in-Some.place (Ok c.in_ok-reply.reply) c.requires.run.numbered
     (run_arrived g.I.Isolate.means c.args.world.now c.args.machine.now c.args.entries.now c.args.count
     c.args.seat (record { 0 = c.args.count + 1 }) c.args.service.now c.args.link c.args.request c.requires.run
-        c.requires.stands
+    c.requires.stands
     refl c.requires.known c.requires.public c.requires.below) c.requires.stands refl
     (ap (λ t. position_from (is_worker t) 0 c.args.machine.now.workers) (sym c.as_slice.ensures)
     ∙ sym c.worker_place-worker.ensures ∙ c.in-Some.is) (c.in_ok-begin.ensures.state
@@ -156,7 +156,7 @@ returns-clause-stands g c =
 pub returns-clause-ended : goal.returns-clause-ended
 returns-clause-ended g c = λ ended all. ended_too g.I.Isolate.means c.args.machine.now c.begin.new.machine
     c.finish.new.machine c.args.count c.args.seat (record { 0 = c.args.count + 1 }) c.args.service.now c.args.link
-        c.args.request
+    c.args.request
     c.in-Some.place c.requires.stands.rests refl (ap (λ t. position_from (is_worker t) 0 c.args.machine.now.workers)
     (sym c.as_slice.ensures) ∙ sym c.worker_place-worker.ensures ∙ c.in-Some.is) (c.in_ok-begin.ensures.state
     ∙ ap (λ t. begun g.I.Isolate.means t c.args.seat (record { 0 = c.args.count + 1 })) c.in_ok-arrive.ensures.state)

@@ -31,8 +31,10 @@ loop-preserved g c = let e = c.wait_where.ensures.tells in record {
   small = rw c.tend_all.ensures.same c.in_ok-taken.ensures.small;
   fixed = c.tend_all.ensures.fixed ∙ c.loop.invariant.fixed;
   sockets = ap (λ t. t.sockets) e ∙ c.tend_all.ensures.kept.0 ∙ c.take_link.ensures.sockets ∙ c.loop.invariant.sockets;
-  files = (ap (λ t. t.files) e ∙ c.tend_all.ensures.kept.2.0 ∙ c.take_link.ensures.files.0 ∙ c.loop.invariant.files.0,
-      ap (λ t. t.hosts) e ∙ c.tend_all.ensures.kept.2.1 ∙ c.take_link.ensures.files.1 ∙ c.loop.invariant.files.1);
+  files = (
+    ap (λ t. t.files) e ∙ c.tend_all.ensures.kept.2.0 ∙ c.take_link.ensures.files.0 ∙ c.loop.invariant.files.0,
+    ap (λ t. t.hosts) e ∙ c.tend_all.ensures.kept.2.1 ∙ c.take_link.ensures.files.1 ∙ c.loop.invariant.files.1,
+  );
   faults = none_fell_then _ _ _ (none_fell_then _ _ _ c.loop.invariant.faults c.take_link.ensures.faults)
       (subst (λ f. NoneFell (g.P.Files.faults c.take_link.new.port) f) (sym c.wait_where.ensures.blames)
       c.tend_all.ensures.faults);
@@ -41,13 +43,13 @@ loop-preserved g c = let e = c.wait_where.ensures.tells in record {
 pub returns-in_err-news-clause-session : goal.returns-in_err-news-clause-session
 returns-in_err-news-clause-session g c =
     subst (λ w. IfSome (g.P.Files.told c.tend_all.new.port).links
-        (Session w.seat w.world.sockets c.tend_all.new.board.1))
+    (Session w.seat w.world.sockets c.tend_all.new.board.1))
     (c.tend_all.ensures.fixed ∙ c.loop.invariant.fixed) (tended_session _ _ _ _ _ _ _ c.tend_all.ensures.tended)
 
 pub returns-then-is_over-clause-session : goal.returns-then-is_over-clause-session
 returns-then-is_over-clause-session g c =
     subst (λ w. IfSome (g.P.Files.told c.tend_all.new.port).links
-        (Session w.seat w.world.sockets c.tend_all.new.board.1))
+    (Session w.seat w.world.sockets c.tend_all.new.board.1))
     (c.tend_all.ensures.fixed ∙ c.loop.invariant.fixed) (tended_session _ _ _ _ _ _ _ c.tend_all.ensures.tended)
 
 pub returns-then-is_over-clause-done : goal.returns-then-is_over-clause-done

@@ -10,8 +10,8 @@ pub returns-in-Err-clause-comes : goal.returns-in-Err-clause-comes
 returns-in-Err-clause-comes g c =
     let same = sym c.early.ensures.outcome in
     early_comes _ _ _ _ _ _ _ _ _ _ _ _ (subst IsEarly same c.in-Err.ensures.early)
-        (subst (IsCaused _) same c.in-Err.ensures.caused) c.early.ensures.journal (ap length c.requires)
-        (λ world k d h. absurd (no_item c.args.ports.now.items k c.requires h))
+    (subst (IsCaused _) same c.in-Err.ensures.caused) c.early.ensures.journal (ap length c.requires)
+    (λ world k d h. absurd (no_item c.args.ports.now.items k c.requires h))
 
 pub returns-in-Ok-clause-comes : goal.returns-in-Ok-clause-comes
 returns-in-Ok-clause-comes g c =

@@ -1,4 +1,6 @@
-use Rattle.std.proofs.Common.{◌∙◌, ap}
+use Rattle.std.proofs.Common.{◌∙◌, ap, subst, Some}
+use Rattle.wd_ports.specs.Send.{Sends}
+use Rattle.wd_top.specs.Session.{tail_text}
 use Rattle.wd_top.specs.declared.seat.link.Heard.TheVariants as heard
 use Rattle.wd_top.proofs.HandleSteps.{handles_later, handles_nothing, handles_end, handles_lost, handles_full}
 use Rattle.wd_top.proofs.HandleSteps.{handles_request, handles_bad}
@@ -17,7 +19,9 @@ pub returns-in-Fed-Bad-clause-handles : goal.returns-in-Fed-Bad-clause-handles
 returns-in-Fed-Bad-clause-handles g c =
     rw c.end_of.ensures (handles_bad _ _ _ c.args.run.now _ c.in-Fed-Bad.code c.refuse-refused.result _ _ _ _
     (c.in-Fed-Bad.is ∙ ap heard.Fed c.in-Fed-Bad.field-0-is) c.refuse-refused.ensures.lost
-    c.refuse-refused.ensures.sends)
+    (subst (λ rest. Sends c.args.link (tail_text rest (Some c.in-Fed-Bad.code)) c.refuse-refused.result
+    (g.P.Files.told c.args.port.now) (g.P.Files.told c.refuse-refused.new.port)) c.unread.ensures
+    c.refuse-refused.ensures.sends))
 
 pub returns-in-Nothing-clause-handles : goal.returns-in-Nothing-clause-handles
 returns-in-Nothing-clause-handles g c = handles_nothing _ _ _ c.args.run.now _ _ _ _ c.in-Nothing.is

@@ -24,8 +24,8 @@ pub returns-in-Ok-Later-clause-hears : goal.returns-in-Ok-Later-clause-hears
 returns-in-Ok-Later-clause-hears g c =
     let tells = c.nothing_or_lost.ensures.tells ∙ (rw c.in-Ok-Later.field-0-is at c.in-Ok-Later.ensures.tells) in
     elim c.nothing_or_lost.ensures.which as
-        (λ w. Hears c.args.link c.args.run.now c.args.run.now c.nothing_or_lost.result (g.P.Files.told c.args.port.now)
-        (g.P.Files.told c.nothing_or_lost.new.port)) [
+    (λ w. Hears c.args.link c.args.run.now c.args.run.now c.nothing_or_lost.result (g.P.Files.told c.args.port.now)
+    (g.P.Files.told c.nothing_or_lost.new.port)) [
       | inl e ↦ subst (λ h. Hears c.args.link c.args.run.now c.args.run.now h (g.P.Files.told c.args.port.now)
           (g.P.Files.told c.nothing_or_lost.new.port)) (sym e)
           (hears_same c.args.link c.args.run.now heard.Nothing _ _ tells (λ s l k o. o))

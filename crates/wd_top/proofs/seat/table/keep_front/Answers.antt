@@ -9,5 +9,5 @@ is_shut_at-requires c = let i = c.loop-k.invariant in at_within c.args.runs.now 
 pub loop-k-preserved : goal.loop-k-preserved
 loop-k-preserved c = let i = c.loop-k.invariant in let p = c.place-kept.ensures in
     compacts c.args.runs.now c.args.live.now c.loop-k.live c.place-kept.new.live c.loop-k.kept c.place-kept.result
-        c.loop-k.k c.is_shut_at.result (let s = i.same in let t = c.loop-k-test.true in omega arith) i
+    c.loop-k.k c.is_shut_at.result (let s = i.same in let t = c.loop-k-test.true in omega arith) i
     c.is_shut_at.ensures c.place-kept.auto.live p.front p.rest p.bound

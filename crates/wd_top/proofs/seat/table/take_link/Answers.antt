@@ -24,8 +24,8 @@ returns-in-Ok-clause-tended g c =
     let f = rw c.in-Ok-Link.field-0-is at c.in-Ok-Link.ensures.fresh in
     let k = rw c.in-Ok-Link.field-0-is at c.in-Ok-Link.ensures.link in
     rw c.in-Ok.ensures.ok (tended_new _ c.in-Ok-Link.socket c.in-Ok-Link.field-0-1 _ _ _ _ _ _ _ _ c.args.runs.now.items
-        f.0 (subst (λ n. c.in-Ok-Link.socket.0 < n) c.requires.sockets f.2) e k.0
-        (λ n u. (c.accept.ensures.keeps n u).0) c.accept.ensures.stays c.requires.tended)
+    f.0 (subst (λ n. c.in-Ok-Link.socket.0 < n) c.requires.sockets f.2) e k.0
+    (λ n u. (c.accept.ensures.keeps n u).0) c.accept.ensures.stays c.requires.tended)
 
 pub returns-in-Err-add_run-clause-session : goal.returns-in-Err-add_run-clause-session
 returns-in-Err-add_run-clause-session g c =
@@ -33,8 +33,8 @@ returns-in-Err-add_run-clause-session g c =
     let f = rw c.in-Ok-Link.field-0-is at c.in-Ok-Link.ensures.fresh in
     let k = rw c.in-Ok-Link.field-0-is at c.in-Ok-Link.ensures.link in
     tended_session _ _ _ (g.P.Files.usable c.accept.new.self) (g.P.Files.gone c.accept.new.self) _
-        (c.args.runs.now.items
-        ++ new_run c.in-Ok-Link.socket ∷ [])
+    (c.args.runs.now.items
+    ++ new_run c.in-Ok-Link.socket ∷ [])
     (tended_new _ c.in-Ok-Link.socket c.in-Ok-Link.field-0-1 _ _ _ _ _ _ _ _ c.args.runs.now.items f.0
-        (subst (λ n. c.in-Ok-Link.socket.0 < n) c.requires.sockets f.2) e k.0 (λ n u. (c.accept.ensures.keeps n u).0)
-        c.accept.ensures.stays c.requires.tended)
+    (subst (λ n. c.in-Ok-Link.socket.0 < n) c.requires.sockets f.2) e k.0 (λ n u. (c.accept.ensures.keeps n u).0)
+    c.accept.ensures.stays c.requires.tended)

@@ -12,8 +12,11 @@ loop-k-preserved g c = record {
   tended = c.tend.ensures.tended;
   same = c.tend.ensures.same ∙ c.loop-k.invariant.same;
   fixed = c.tend.ensures.fixed ∙ c.loop-k.invariant.fixed;
-  kept = (c.tend.ensures.kept.0 ∙ c.loop-k.invariant.kept.0, c.tend.ensures.kept.1 ∙ c.loop-k.invariant.kept.1,
-      (c.tend.ensures.kept.2.0 ∙ c.loop-k.invariant.kept.2.0, c.tend.ensures.kept.2.1 ∙ c.loop-k.invariant.kept.2.1));
+  kept = (
+    c.tend.ensures.kept.0 ∙ c.loop-k.invariant.kept.0,
+    c.tend.ensures.kept.1 ∙ c.loop-k.invariant.kept.1,
+    (c.tend.ensures.kept.2.0 ∙ c.loop-k.invariant.kept.2.0, c.tend.ensures.kept.2.1 ∙ c.loop-k.invariant.kept.2.1),
+  );
   covers = covers_step c.args.live.now c.loop-k.k _ _ c.loop-k-test.true c.tend.ensures.same c.tend.ensures.others
       c.loop-k.invariant.covers;
   faults = none_fell_then _ _ _ c.loop-k.invariant.faults c.tend.ensures.faults;
