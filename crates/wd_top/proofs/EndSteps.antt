@@ -25,6 +25,7 @@ use Rattle.wd_plan.specs.Constant.{constant_means}
 use Rattle.wd_plan.specs.Plan.{Plan, Refuses, Starts, Plans, IsReadPath}
 use Rattle.wd_plan.specs.Prepare.{Heeds, OnEndFault, OnRefusedFault, plan_of_end, plan_of_refusal}
 use Rattle.wd_plan.proofs.PlanLaws.{no_command, plans_one}
+use Rattle.wd_plan.proofs.SomePlan.{some_plan}
 use Rattle.wd_ports.specs.declared.told.Faults.{Faults}
 use Rattle.wd_ports.specs.Faults.{Rose}
 use Rattle.wd_ports.specs.Sink.{with_bytes}
@@ -271,8 +272,10 @@ pub status_is : (call : Call) (held held' : Option (List ℕ)) (count count' sta
 status_is call held held' count count' status o caused reports =
     elim call.files as (λ f. call.files ≡ f → IfSome f (λ _. IsStatus call (Rose count count') status)) [
       | None ↦ λ told. tt
-      | Some s ↦ λ told. λ asked asks.
-          by_report call s held held' count count' status o caused.0 asked told caused.1 asks reports
+      | Some s ↦ λ told.
+          let plan = some_plan call.words s in
+          let asks : Asks call plan.0 = subst (λ f. Plans call.words f plan.0) (sym told) plan.1 in
+          (plan.0, asks, by_report call s held held' count count' status o caused.0 plan.0 told caused.1 asks reports)
     ] refl
 
 -- ---- notices

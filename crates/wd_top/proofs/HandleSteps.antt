@@ -1,6 +1,6 @@
 -- What `hear` and `handle` leave, exit by exit.
 use Rattle.std.proofs.Common.{◌≡◌, ℕ, ◌≤◌, List, [], length, take, refl, sym, ◌∙◌, subst, Bool, true, false, Some}
-use Rattle.std.proofs.Common.{Result, Ok, Err, inl, inr, append-nil, IsErrOf, OnOk}
+use Rattle.std.proofs.Common.{◌++◌, ap, arith, Result, Ok, Err, inl, inr, append-nil, IsErrOf, OnOk}
 use Rattle.std.proofs.lemmas.Bool.{false≢true}
 use Rattle.wd_base.specs.declared.ids.LinkNo.{LinkNo}
 use Rattle.wd_base.specs.declared.ids.Seat.{Seat}
@@ -10,6 +10,7 @@ use Rattle.wd_ports.specs.declared.told.Failed.{Failed}
 use Rattle.wd_ports.specs.declared.told.Failed.TheVariants.{Fault, NoMemory}
 use Rattle.wd_ports.specs.Told.{Told, with_received, with_sent, with_end, received_on, ended_on}
 use Rattle.wd_ports.specs.Send.{Sends}
+use Rattle.wd_ports.proofs.OneLink.{sent_nothing}
 use Rattle.wd_machine.specs.declared.journal.Entry.{Entry}
 use Rattle.http_in.specs.declared.conn.Phase.TheVariants as phase
 use Rattle.http_in.specs.declared.conn.Fed.TheVariants as fed
@@ -18,7 +19,9 @@ use Rattle.wd_top.specs.declared.seat.link.Heard.{Heard}
 use Rattle.wd_top.specs.declared.seat.link.Heard.TheVariants as heard
 use Rattle.wd_top.specs.declared.seat.link.StepEnd.{StepEnd}
 use Rattle.wd_top.specs.declared.seat.link.StepEnd.TheVariants as end
-use Rattle.http_in.specs.Stream.{IsFault}
+use Rattle.http_in.specs.declared.conn.Fed.{Fed}
+use Rattle.http_in.specs.Conn.{Feeds, FeedsAt, FeedsOpen, phase_after}
+use Rattle.http_in.specs.Stream.{IsFault, IsUnfinished}
 use Rattle.http_text.specs.ReplyText.{reply_text}
 use Rattle.wd_top.specs.Talk.{Talk, talk}
 use Rattle.wd_top.specs.Session.{is_head, tail_text, Carries}
@@ -74,6 +77,30 @@ hears_end n run t new e r = record {
     refl,
   );
 }
+
+-- what an open connection answered to bytes is known of the link
+fed_known : (s : List ℕ) (l : LinkState) (t : Talk) (bytes : List ℕ) (f : Fed) (run : LinkRun)
+    → Reading s l t bytes false [] → FeedsOpen bytes f run.conn → Known (heard.Fed f) s l t run
+fed_known s l t bytes (fed.Request r close) run reading (reads, at) = record {
+  rest = bytes;
+  reading = reading;
+  reads = reads;
+  phase = λ e. at ∙ ap phase_after e;
+}
+fed_known s l t bytes fed.Later run reading (same, at, unfinished) =
+    (subst (λ b. Reading s l t b false []) (sym same) reading, at, subst IsUnfinished (sym same) unfinished)
+fed_known s l t bytes (fed.Bad code) run reading (at, same, fault) =
+    (subst (λ b. Reading s l t b false []) (sym same) reading, subst (λ b. IsFault b code) (sym same) fault)
+
+pub feeds_known : (run run' : LinkRun) (piece : List ℕ) (f : Fed) → Feeds run.conn piece f run'.conn
+    → Knows run piece (heard.Fed f) run'
+feeds_known run run' piece f feeds s l t reading opens =
+    fed_known s l t (run.conn.queue ++ piece) f run' reading
+    (subst (λ p. FeedsAt p run.conn piece f run'.conn) opens feeds)
+
+-- nothing was sent for want of memory
+pub none_sent : (n : LinkNo) (bytes : List ℕ) (t : Told) → Sends n bytes (Err NoMemory) t t
+none_sent n bytes t = record { count = 0; within = omega arith; whole = tt; tells = sym (sent_nothing n t) }
 
 -- neither the port nor the journal changed
 unmoved : (seat : Seat) (n : LinkNo) (s : List ℕ) (run run' : LinkRun) (i : Heard) (e : StepEnd) (t : Told)

@@ -531,7 +531,8 @@ rests_turned {I = I} m s n seat q service link request w h e found = subst (λ t
       rows = subst (λ x. RowsFrom 0 x) (sym rows)
           (rows_push 0 s.requests (has_turned waiting p r) h.rows (omega (arith, e, h.count)));
       count = ap length rows ∙ length-append s.requests _ ∙ ap (λ k. k + 1) h.count ∙ sym e;
-      running = ap (λ rs. filter (λ (x : Run). not (x.seat.0 == seat.0)) (rs ++ record { seat = seat; req = q } ∷ [])) h.running
+      running = ap (λ rs. filter (λ (x : Run). not (x.seat.0 == seat.0)) (rs ++ record { seat = seat; req = q } ∷ []))
+          h.running
           ∙ alone;
       due = h.due;
       idle = subst AreIdle (sym (ap (change (is_worker service) (given_back (ends r waiting p.out) q.0))

@@ -1,6 +1,7 @@
 -- What is known of a link goes on from step to step.
 use Rattle.std.proofs.Common.{◌≡◌, ℕ, ◌≤◌, List, [], ◌∷◌, ◌++◌, length, take, refl, ap, ap₂, sym, ◌∙◌, subst, arith}
 use Rattle.std.proofs.Common.{Bool, true, false, ◌&&◌, Some, None, inl, inr, append_assoc, append-nil, length-append}
+use Rattle.std.proofs.Common.{◌+◌, ◌<◌, drop, get_or, zero, suc}
 use Rattle.std.proofs.lemmas.List.{map-append, take_all, length-take-le}
 use Rattle.std.proofs.Math.Seq.{take-append-add, take-length}
 use Rattle.std.proofs.lemmas.Bool.{false≢true}
@@ -253,7 +254,8 @@ whole_refused service l t rest code k e x f = record {
   orderly = x.orderly;
   answers = x.answers;
   over = inr (inr refl);
-  sent = ap₂ (λ a b. a ++ b) (sym (append-nil l.sent) ∙ sym x.sent) (take_all k (tail_text rest (Some code)) (omega arith));
+  sent = ap₂ (λ a b. a ++ b) (sym (append-nil l.sent) ∙ sym x.sent)
+      (take_all k (tail_text rest (Some code)) (omega arith));
 }
 
 pub carries_refused : (service : List ℕ) (l : LinkState) (t : Talk) (rest : List ℕ) (code k : ℕ)

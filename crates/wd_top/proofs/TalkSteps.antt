@@ -128,7 +128,8 @@ below_from : (s n m : ℕ) (t : Talk) (es : List Entry) → NumberedFrom m es �
 below_from s n m t [] x b = b
 below_from s n m t (Arrive seat q service origin allow request ∷ es) (number, x) b =
     below_from s n (m + 1) (talk_step s n t (Arrive seat q service origin allow request)) es x
-    (elim (came_over s n seat origin) as (λ c. Below (m + 1) (cond c (add_row (asked_row q service request) t) t).rows) [
+    (elim (came_over s n seat origin) as
+    (λ c. Below (m + 1) (cond c (add_row (asked_row q service request) t) t).rows) [
       | true ↦ below_snoc m (m + 1) t.rows _ (omega arith) (omega arith) b
       | false ↦ below_more m (m + 1) t.rows (omega arith) b
     ])

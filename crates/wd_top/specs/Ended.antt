@@ -203,7 +203,8 @@ status_for call (Refuses why) status = status ≡ refusal_status why
 status_for call (Starts verb.Check world) status = status ≡ 0
 status_for call (Starts verb.Serve world) status = (status ≡ 0) ⊎ ((status ≡ 7) × PortFailed call)
 
--- each status comes where its cause is, but for 5 where a read failed, 4 where the sink failed, and 9
+-- the words and the files ask for a plan, of which there is one alone where the files are told, and the status is one that
+-- it allows, but for 5 where a read failed, 4 where the sink failed, and 9
 abbrev pub IsStatus : Call → Type 0 → ℕ → Type 0
-IsStatus call sink_rose status = (plan : Plan) → Asks call plan → status_for call plan status
-    ⊎ (((status ≡ 5) × call.read_failed) ⊎ (((status ≡ 4) × sink_rose) ⊎ (status ≡ 9)))
+IsStatus call sink_rose status = (plan : Plan) × Asks call plan × (status_for call plan status
+    ⊎ (((status ≡ 5) × call.read_failed) ⊎ (((status ≡ 4) × sink_rose) ⊎ (status ≡ 9))))

@@ -277,7 +277,7 @@ impl<I: Isolate> Board<I> {
 
     /// A request over a link that came at a socket, from its arrival to the end of its turn. It
     /// gives the request's reply as it stands in the journal, and None where the request has none.
-    #[tactic(auto, using(crate::proofs::BoardSteps::unasked, crate::proofs::BoardSteps::service_known, crate::proofs::BoardSteps::service_public))]
+    #[tactic(auto, using(crate::proofs::BoardSteps::unasked))]
     pub fn answer(
         &mut self,
         alloc: Global,

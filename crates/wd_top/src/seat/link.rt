@@ -125,7 +125,7 @@ fn nothing_or_lost<P: Port>(port: &mut P, link: LinkNo) -> Heard
 }
 
 /// Sends a reply's text.
-#[tactic(auto, using(wd_ports::proofs::OneLink::sent_nothing, crate::proofs::FaultSteps::none_fell_same, crate::proofs::FaultSteps::written))]
+#[tactic(auto, using(crate::proofs::FaultSteps::none_fell_same, crate::proofs::FaultSteps::written))]
 fn send<P: Port>(
     port: &mut P,
     alloc: Global,
@@ -205,7 +205,7 @@ fn asks_head(bytes: &[u8]) -> bool
 }
 
 /// Sends the text that refuses these bytes, without its body where they ask for a head alone.
-#[tactic(auto, using(wd_ports::proofs::OneLink::sent_nothing, crate::proofs::FaultSteps::none_fell_same, crate::proofs::FaultSteps::written))]
+#[tactic(auto, using(crate::proofs::FaultSteps::none_fell_same, crate::proofs::FaultSteps::written))]
 fn refuse<P: Port>(
     port: &mut P,
     alloc: Global,
