@@ -30,7 +30,7 @@ use Rattle.wd_plan.specs.declared.refusal.Refusal.TheVariants as refusal
 use Rattle.wd_plan.specs.declared.script.Verdict.{Verdict}
 use Rattle.wd_plan.specs.declared.script.Verdict.TheVariants as verdict
 use Rattle.wd_plan.specs.Folder.{folder}
-use Rattle.wd_plan.specs.Plan.{Plan, Refuses, Plans, AtAnswer, AtWish, AtConfig, AtKinds, AtNames, AtScripts}
+use Rattle.wd_plan.specs.Plan.{Plan, Refuses, Plans, AtAnswer, AtConfig, AtKinds, AtNames, AtScripts, AtWish}
 use Rattle.wd_plan.specs.Plan.{at_script, may_go, other_kind}
 use Rattle.wd_plan.specs.Script.{Comes, answer_for}
 use Rattle.wd_plan.specs.Starts.{FirstRefused, IsPassed, IsRefusedFor, are_plain, refused}
@@ -121,7 +121,7 @@ some_config s asked (Some bytes) e =
     let at = some_answer asked.verb r.answer told in
     (at.0, (Some bytes, e, (r, reading.1, r.answer, says_itself r.answer, at.1)))
 
-some_wish : (s : Stored) (w : Wish) → (plan : Plan) × AtWish (Some s) w plan
+some_wish : (s : Stored) (asks : Wish) → (plan : Plan) × AtWish (Some s) asks plan
 some_wish s (shows notice) = (Refuses (refusal.NoCommand notice), refl)
 some_wish s (runs asked) = some_config s asked (file_at s asked.config) refl
 

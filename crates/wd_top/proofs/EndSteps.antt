@@ -15,6 +15,7 @@ use Rattle.wd_command.specs.Notice.{status_of as notice_status, text_of as notic
 use Rattle.wd_machine.specs.declared.journal.Entry.{Entry}
 use Rattle.wd_machine.specs.declared.journal.Head.TheVariants.{Whole}
 use Rattle.wd_machine.specs.declared.journal.Journal.{Journal}
+use Rattle.wd_machine.specs.Meaning.{Meaning}
 use Rattle.wd_machine.specs.Runs.{legal}
 use Rattle.wd_plan.specs.declared.ready.PlanEnd.{PlanEnd}
 use Rattle.wd_plan.specs.declared.ready.PlanEnd.TheVariants as end
@@ -58,13 +59,14 @@ pub no_numbers : (entries : List Entry) → entries ≡ [] → IsNumbered entrie
 unfolding IsNumbered
 no_numbers entries e = subst (λ es. NumberedFrom 0 es) (sym e) tt
 
--- no request of no entries is left
-pub nothing_over : (world : Config) (entries : List Entry) → entries ≡ [] → IsOver constant_means world entries
-nothing_over world entries e = subst (λ es. IsOver constant_means world es) (sym e) (record {
+-- after no entries nothing is left to do
+pub nothing_over : {I : Type 0} (m : Meaning I) (world : Config) (entries : List Entry) → entries ≡ []
+    → IsOver m world entries
+nothing_over m world entries e = subst (λ es. IsOver m world es) (sym e) (record {
   ended = tt;
   running = refl;
   due = refl;
-  idle = idle_first constant_means world.services world.services;
+  idle = idle_first m world.services world.services;
 })
 
 -- the port that is handed out could not listen
@@ -166,32 +168,37 @@ checked_caused words files rr mr lf v world o plan check is = (
       (subst (λ x. Plans words files (Starts x world)) check plan, refl, refl),
 )
 
--- an outcome without a session
+-- an outcome without a session leaves nothing
+pub early_ran : (seat : Seat) (world : Config) (o : Outcome) (journal : Journal) (ports : ℕ) (at_ports : Type 0)
+    → IsEarly o → journal ≡ record { head = Whole; entries = [] } → ports ≡ 0 → at_ports
+    → Ran seat world o journal ports at_ports
+early_ran seat world o journal ports at_ports early empty no_ports at =
+    let entries : journal.entries ≡ [] = ap (λ j. j.entries) empty in
+    record {
+      whole = ap (λ j. j.head) empty;
+      run = subst (λ j. legal constant_means world j ≡ true) (sym empty) refl;
+      numbered = no_numbers journal.entries entries;
+      of_seat = no_entries seat journal.entries entries;
+      over = λ is. nothing_over constant_means world journal.entries entries;
+      few = omega (arith, no_ports);
+      one = λ h. absurd (early_no_port world o early h);
+      idle = λ none. no_ports;
+      unheard = λ none. entries;
+      unused = λ h. entries;
+      at = at;
+    }
+
 pub early_comes : (seat : Seat) (words : List (List ℕ)) (files : Option Stored) (rr mr mr' lf lf' : Type 0)
     (o : Outcome) (journal : Journal) (ports : ℕ) (at_ports : Config → Type 0) → IsEarly o
     → IsCaused (call_by words files rr mr lf) o → journal ≡ record { head = Whole; entries = [] } → ports ≡ 0
     → ((world : Config) → at_ports world)
     → Comes seat (call_by words files rr mr' lf') o journal ports at_ports
-early_comes seat words files rr mr mr' lf lf' o journal ports at_ports early (world, caused) empty no_ports at =
-    let entries : journal.entries ≡ [] = ap (λ j. j.entries) empty in
-    record {
-      world = world;
-      caused = early_lift words files rr mr mr' lf lf' world o early caused;
-      early = λ e. inl (entries, no_ports);
-      ran = record {
-        whole = ap (λ j. j.head) empty;
-        run = subst (λ j. legal constant_means world j ≡ true) (sym empty) refl;
-        numbered = no_numbers journal.entries entries;
-        of_seat = no_entries seat journal.entries entries;
-        over = λ is. nothing_over world journal.entries entries;
-        few = omega (arith, no_ports);
-        one = λ h. absurd (early_no_port world o early h);
-        idle = λ none. no_ports;
-        unheard = λ none. entries;
-        unused = λ h. entries;
-        at = at world;
-      };
-    }
+early_comes seat words files rr mr mr' lf lf' o journal ports at_ports early (world, caused) empty no_ports at = record {
+  world = world;
+  caused = early_lift words files rr mr mr' lf lf' world o early caused;
+  early = λ e. inl (ap (λ j. j.entries) empty, no_ports);
+  ran = early_ran seat world o journal ports (at_ports world) early empty no_ports (at world);
+}
 
 -- the outcome of a session
 pub session_comes : (seat : Seat) (call : Call) (world : Config) (o : Outcome) (journal : Journal) (ports : ℕ)

@@ -1,11 +1,12 @@
 -- What is known of a link goes on from step to step.
 use Rattle.std.proofs.Common.{◌≡◌, ℕ, ◌≤◌, List, [], ◌∷◌, ◌++◌, length, take, refl, ap, ap₂, sym, ◌∙◌, subst, arith}
 use Rattle.std.proofs.Common.{Bool, true, false, ◌&&◌, Some, None, inl, inr, append_assoc, append-nil, length-append}
-use Rattle.std.proofs.Common.{◌+◌, ◌<◌, drop, get_or, zero, suc}
-use Rattle.std.proofs.lemmas.List.{map-append, take_all, length-take-le}
+use Rattle.std.proofs.Common.{◌+◌, ◌-◌, ◌<◌, drop, get_or, zero, suc, nat_eq}
+use Rattle.std.proofs.lemmas.List.{map-append, take_all, length-drop, length-take-le}
+use Rattle.std.specs.List.{starts_with}
 use Rattle.std.proofs.Math.Seq.{take-append-add, take-length}
 use Rattle.std.proofs.lemmas.Bool.{false≢true}
-use Rattle.std.specs.Prelude.{is_some}
+use Rattle.std.specs.Prelude.{codes, is_some}
 use Rattle.wd_base.specs.declared.ids.LinkNo.{LinkNo}
 use Rattle.wd_base.specs.declared.http.ReqData.{ReqData}
 use Rattle.wd_base.specs.declared.http.Reply.{Reply}
@@ -20,7 +21,7 @@ use Rattle.wd_top.specs.Text.{line}
 use Rattle.http_in.proofs.StreamLaws.{all_more, all_snoc, closing_snoc}
 use Rattle.wd_top.specs.Talk.{Row, Talk, answered, add_row}
 use Rattle.wd_top.specs.Session.{is_head, tail_text, asked, arrivals, replies, AreAt, Carries, IsWhole}
-use Rattle.wd_top.specs.Session.{is_line_end, behind_lines}
+use Rattle.wd_top.specs.Session.{asks_head, is_line_end, behind_lines}
 use Rattle.wd_top.specs.Steps.{Reading, Asks}
 
 -- what a port tells: one link is changed
@@ -305,22 +306,22 @@ whole_shut service l t x = record {
 -- ---- the empty lines before a request line
 
 -- one more line end is passed over
-pub line_passed : (bytes : List ℕ) (at byte : ℕ) → at < length bytes → byte ≡ get_or bytes at byte
-    → is_line_end byte ≡ true → behind_lines (drop at bytes) ≡ behind_lines (drop (at + 1) bytes)
+pub line_passed : (bytes : List ℕ) (at : ℕ) → at < length bytes → is_line_end (get_or bytes at 0) ≡ true
+    → behind_lines (drop at bytes) ≡ behind_lines (drop (at + 1) bytes)
 unfolding behind_lines
-line_passed [] at byte h is ends = absurd (omega (arith, h))
-line_passed (b ∷ bytes) zero byte h is ends = rw (ap is_line_end (sym is) ∙ ends) refl
-line_passed (b ∷ bytes) (suc at) byte h is ends =
+line_passed [] at h ends = absurd (omega (arith, h))
+line_passed (b ∷ bytes) zero h ends = rw ends refl
+line_passed (b ∷ bytes) (suc at) h ends =
     let next : suc at + 1 ≡ suc (at + 1) = omega arith in
-    line_passed bytes at byte (omega (arith, h)) is ends ∙ ap (λ k. behind_lines (drop k (b ∷ bytes))) (sym next)
+    line_passed bytes at (omega (arith, h)) ends ∙ ap (λ k. behind_lines (drop k (b ∷ bytes))) (sym next)
 
 -- here no further line end stands
-pub line_begun : (bytes : List ℕ) (at byte : ℕ) → at < length bytes → byte ≡ get_or bytes at byte
-    → is_line_end byte ≡ false → behind_lines (drop at bytes) ≡ drop at bytes
+pub line_begun : (bytes : List ℕ) (at : ℕ) → at < length bytes → is_line_end (get_or bytes at 0) ≡ false
+    → behind_lines (drop at bytes) ≡ drop at bytes
 unfolding behind_lines
-line_begun [] at byte h is ends = absurd (omega (arith, h))
-line_begun (b ∷ bytes) zero byte h is ends = rw (ap is_line_end (sym is) ∙ ends) refl
-line_begun (b ∷ bytes) (suc at) byte h is ends = line_begun bytes at byte (omega (arith, h)) is ends
+line_begun [] at h ends = absurd (omega (arith, h))
+line_begun (b ∷ bytes) zero h ends = rw ends refl
+line_begun (b ∷ bytes) (suc at) h ends = line_begun bytes at (omega (arith, h)) ends
 
 -- behind all bytes nothing stands
 pub lines_only : (bytes : List ℕ) (at : ℕ) → length bytes ≤ at → behind_lines (drop at bytes) ≡ drop at bytes
@@ -329,3 +330,13 @@ lines_only [] zero h = refl
 lines_only [] (suc at) h = refl
 lines_only (b ∷ bytes) zero h = absurd (omega (arith, h))
 lines_only (b ∷ bytes) (suc at) h = lines_only bytes at (omega (arith, h))
+
+-- what stands behind the lines begins with the method, or not
+pub head_asked : (bytes : List ℕ) (at : ℕ) (result : Bool) → behind_lines bytes ≡ behind_lines (drop at bytes)
+    → behind_lines (drop at bytes) ≡ drop at bytes
+    → result ≡ starts_with nat_eq (take (length bytes - at) (drop at bytes)) (codes "HEAD ")
+    → result ≡ asks_head bytes
+head_asked bytes at result passed stops is =
+    let rest : take (length bytes - at) (drop at bytes) ≡ drop at bytes =
+        take_all _ _ (omega (arith, length-drop at bytes)) in
+    is ∙ ap (λ b. starts_with nat_eq b (codes "HEAD ")) (rest ∙ sym stops ∙ sym passed)

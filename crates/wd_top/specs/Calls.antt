@@ -1,5 +1,5 @@
 -- What a call is given and what it leaves, by what its file store, its maker, its ports and its sink tell.
-use Rattle.std.specs.Prelude.{◌≡◌, ◌⊎◌, ℕ, ◌<◌, List, [], ◌∷◌, map, Option, None, IfSome, All}
+use Rattle.std.specs.Prelude.{◌≡◌, ◌⊎◌, ℕ, ◌<◌, List, [], ◌∷◌, map, Option, IfSome, All}
 use Rattle.std.specs.Prelude.{String, string_bytes}
 use Rattle.wd_base.specs.declared.config.Config.{Config}
 use Rattle.wd_base.specs.declared.ids.LinkNo.{LinkNo}

@@ -61,7 +61,6 @@ fn early(alloc: Global, outcome: Outcome) -> Ran
 }
 
 /// The session of what is ready.
-#[tactic(auto, using(crate::proofs::EndSteps::no_entries, crate::proofs::EndSteps::no_numbers))]
 fn serve<R: Wait, M: Maker>(
     rt: &R,
     alloc: Global,

@@ -193,7 +193,6 @@ fn is_line_end(byte: u8) -> bool
 
 /// The bytes begin a request line with the method HEAD, behind the empty lines that may stand
 /// before one (RFC 9112, sections 2.2 and 3).
-#[tactic(auto, using(crate::proofs::SessionSteps::line_begun, crate::proofs::SessionSteps::lines_only))]
 fn asks_head(bytes: &[u8]) -> bool
     ensures { result ≡ asks_head bytes.now }
 {

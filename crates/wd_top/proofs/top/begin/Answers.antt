@@ -12,8 +12,8 @@ pub returns-in-Err-Refused-clause-caused : goal.returns-in-Err-Refused-clause-ca
 returns-in-Err-Refused-clause-caused g c =
     let said = c.in-Err-Refused.ensures in
     end_caused _ _ (RoseIn ReadFile (g.F.Files.faults c.args.files.now) (g.F.Files.faults c.prepare.new.files)) ⊥ ⊥
-        c.in-Err-Refused.field-0 c.in-Err-Refused.why c.in-Err-Refused.field-0-is said.plan said.fault said.path
-        (λ notice e. notice_asked (wish (spoken c.args.words.now)) c.in-Err-Refused.field-0 notice said.words e)
+    c.in-Err-Refused.field-0 c.in-Err-Refused.why c.in-Err-Refused.field-0-is said.plan said.fault said.path
+    (λ notice e. notice_asked (wish (spoken c.args.words.now)) c.in-Err-Refused.field-0 notice said.words e)
 
 pub returns-in-Check-clause-caused : goal.returns-in-Check-clause-caused
 returns-in-Check-clause-caused g c =

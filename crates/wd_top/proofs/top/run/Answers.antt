@@ -17,8 +17,8 @@ pub returns-in-Ok-clause-comes : goal.returns-in-Ok-clause-comes
 returns-in-Ok-clause-comes g c =
     let said = c.serve.ensures in
     session_comes _ _ _ _ _ _ _ said.end c.in-Ok.ensures.asked said.failed
-        (λ address is. listening_failed _ _ _ _ c.serve.new.ports.items _ _ _ address is
-        (one_listening _ _ address _ is said.ran.one) said.ran.at) said.ran
+    (λ address is. listening_failed _ _ _ _ c.serve.new.ports.items _ _ _ address is
+    (one_listening _ _ address _ is said.ran.one) said.ran.at) said.ran
 
 pub returns-in-Err-clause-words : goal.returns-in-Err-clause-words
 returns-in-Err-clause-words g c = subst (λ (o : Outcome). ForNotice c.args.words.now (λ notice. IsShown notice o))
