@@ -556,6 +556,7 @@ fn maker_of_one(alloc: Global) -> Result<MemMaker, NoMemory> {
         fail,
         calls: 0,
         faults: 0,
+        given: 0,
     })
 }
 

@@ -280,6 +280,7 @@ fn maker_of(alloc: Global, around: &Around<'_>) -> Result<MemMaker, NoMemory> {
         fail,
         calls: 0,
         faults: 0,
+        given: 0,
     })
 }
 
