@@ -16,9 +16,10 @@ adds_arg old a new p r h g s =
 -- a command with one more command of its own
 pub adds_command : (old sub new : Command) (p q : App) → IsApp p old → IsApp q sub → AddsSubcommand old sub new
     → IsApp (with_subcommand p q.top) new
-adds_command old sub new p q h g s =
-    (s.shape g.1 ∙ ap₂ with_subcommand h.0 (ap (λ (x : App). x.top) g.0),
-    s.globals ∙ ap₂ (λ (x y : Bool). x || y) h.1 g.1)
+adds_command old sub new p q h g s = (
+  s.shape g.1 ∙ ap₂ with_subcommand h.0 (ap (λ (x : App). x.top) g.0),
+  s.globals ∙ ap₂ (λ (x y : Bool). x || y) h.1 g.1,
+)
 
 -- an argument that becomes an option with a value
 pub option_arg : (start end : Arg) (name : Bor Text) → IsArg (new_rule name.now) start

@@ -23,9 +23,7 @@ fn option<'a>(alloc: Global, name: &'a str) -> Arg<'a>
 fn flag<'a>(alloc: Global, name: &'a str) -> Arg<'a>
     ensures { IsArg (flag name.entry.now) result }
 {
-    Arg::new(alloc, name)
-        .long(name)
-        .action(ArgAction::SetTrue)
+    Arg::new(alloc, name).long(name).action(ArgAction::SetTrue)
 }
 
 /// `<config> [<const>]`, of a command of this name.
@@ -34,9 +32,7 @@ fn on_config<'a>(alloc: Global, name: &'a str) -> Result<Command<'a>, AllocError
 {
     let config = word(alloc, "config");
     let constant = word(alloc, "const");
-    Command::new(alloc, name)
-        .arg(config)?
-        .arg(constant)
+    Command::new(alloc, name).arg(config)?.arg(constant)
 }
 
 /// `serve <config> [<const>] [--threads n] [--help]`.

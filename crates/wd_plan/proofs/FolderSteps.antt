@@ -44,7 +44,7 @@ front_is [] (suc n) h none ends = refl
 front_is (b ∷ rest) zero h none ends = sym (ap (λ t. if t then b ∷ folder rest else []) none)
 front_is (b ∷ rest) (suc n) h none ends =
     ap (λ t. b ∷ t) (front_is rest n (omega arith) none (shorter b rest n ends))
-        ∙ sym (ap (λ t. if t then b ∷ folder rest else []) (holds b rest n h ends))
+    ∙ sym (ap (λ t. if t then b ∷ folder rest else []) (holds b rest n h ends))
 
 pub folder_at : (path : List ℕ) (n : ℕ) → 0 < n → n ≤ length path → get_or path (n - 1) 0 ≡ 47 → has_slash (drop n path)
     ≡ false → take n path ≡ folder path
@@ -60,10 +60,10 @@ pub slash_less : (path : List ℕ) (n : ℕ) → 0 < n → n ≤ length path →
 slash_less path n some h other none =
     let back : suc (n - 1) ≡ n = omega arith in
     let e : drop (n - 1) path ≡ get_or path (n - 1) 0 ∷ drop n path = drop-cons path (n - 1) 0 (omega arith)
-        ∙ ap (λ k. get_or path (n - 1) 0 ∷ drop k path) back in
+    ∙ ap (λ k. get_or path (n - 1) 0 ∷ drop k path) back in
     ap has_slash e ∙ ap (λ t. (get_or path (n - 1) 0 == 47) || t) none
-        ∙ or_false (get_or path (n - 1) 0 == 47) (differs (get_or path (n - 1) 0) 47 (get_or path (n - 1) 0 == 47) refl
-        other)
+    ∙ or_false (get_or path (n - 1) 0 == 47) (differs (get_or path (n - 1) 0) 47 (get_or path (n - 1) 0 == 47) refl
+    other)
 
 pub no_slash_behind : (path : List ℕ) → has_slash (drop (length path) path) ≡ false
 no_slash_behind path = ap has_slash (drop-length path)

@@ -79,7 +79,7 @@ at_file s asked (Some bytes) p p' (r, of, a, says, at) (r', of', a', says', at')
     let here : r.answer ≡ a = says_is bytes asked.constant (folder asked.config) s r a r.answer of refl says in
     let there : r'.answer ≡ a' = says_is bytes asked.constant (folder asked.config) s r' a' r'.answer of' refl says' in
     at_answer asked.verb a p p' at
-        (subst (λ x. AtAnswer asked.verb x p') (sym there ∙ ap (λ x. x.answer) same ∙ here) at')
+    (subst (λ x. AtAnswer asked.verb x p') (sym there ∙ ap (λ x. x.answer) same ∙ here) at')
 
 at_config : (s : Stored) (asked : Asked) (p p' : Plan) → AtConfig (Some s) asked p → AtConfig (Some s) asked p'
     → p ≡ p'

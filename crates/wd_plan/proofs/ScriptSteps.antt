@@ -37,7 +37,7 @@ pub comes_checked : (def : WorkerDef) (units : List ℕ) (found : Option ScriptR
 comes_checked def units found (Err end) e checked is judged = tt
 comes_checked def units found (Ok verdict) e checked is judged =
     let passed : Checked (utf16_of def.source) None =
-        subst (λ f. Checked (utf16_of def.source) f) is (subst (λ u. Checked u found) e checked) in
+    subst (λ f. Checked (utf16_of def.source) f) is (subst (λ u. Checked u found) e checked) in
     subst (Comes def) (sym judged) (comes_answered def (answer_for def) passed refl)
 
 -- by what the check of a script found, and by its form
@@ -63,7 +63,7 @@ comes_one def a b x y =
     let p : IsJudged def a = comes_judged def a x in
     let q : IsJudged def b = comes_judged def b y in
     p.is ∙ ap (λ f. judged f (answer_for def)) (one_verdict (utf16_of def.source) p.found q.found p.checked q.checked)
-        ∙ sym q.is
+    ∙ sym q.is
 
 -- ---- a string literal
 
@@ -130,8 +130,8 @@ escape_at xs i h hb hc =
     let second : drop (i + 1) xs ≡ get_or xs (i + 1) 0 ∷ drop (i + 1 + 1) xs = from_place xs (i + 1) h in
     let two : drop (i + 1 + 1) xs ≡ drop (i + 2) xs = ap (λ k. drop k xs) (omega arith) in
     let both : drop i xs ≡ 92 ∷ 110 ∷ drop (i + 2) xs = first ∙ ap (λ t. get_or xs i 0 ∷ t) second
-        ∙ ap (λ t. get_or xs i 0 ∷ get_or xs (i + 1) 0 ∷ t) two ∙ ap (λ b. b ∷ get_or xs (i + 1) 0 ∷ drop (i + 2) xs) hb
-        ∙ ap (λ c. 92 ∷ c ∷ drop (i + 2) xs) hc in
+    ∙ ap (λ t. get_or xs i 0 ∷ get_or xs (i + 1) 0 ∷ t) two ∙ ap (λ b. b ∷ get_or xs (i + 1) 0 ∷ drop (i + 2) xs) hb
+    ∙ ap (λ c. 92 ∷ c ∷ drop (i + 2) xs) hc in
     ap literal_value both ∙ escape_head 92 110 (drop (i + 2) xs) refl refl
 
 pub plain_at : (xs : List ℕ) (i : ℕ) → i < length xs → is_plain (get_or xs i 0) ≡ true → literal_value (drop i xs)

@@ -100,11 +100,10 @@ by_text : (bytes : List ℕ) (name : Option (List ℕ)) (place : List ℕ) (file
     → (r : Read Config) × Answers bytes name place files r
 by_text bytes name place files (Ok file) e =
     (configured name place files file, inl (record { file = file; text = found_law bytes (Ok file) e; is = refl }))
-by_text bytes name place files (Err f) e =
-    (
-      refuse (kind.Text f.kind) f.place [],
-      inr (record { fault = f; first = first_law bytes (Err (Fault f)) e; is = refl }),
-    )
+by_text bytes name place files (Err f) e = (
+  refuse (kind.Text f.kind) f.place [],
+  inr (record { fault = f; first = first_law bytes (Err (Fault f)) e; is = refl }),
+)
 
 some_reading : (bytes : List ℕ) (name : Option (List ℕ)) (place : List ℕ) (files : Option Stored)
     → (r : Read Config) × Answers bytes name place files r
@@ -117,7 +116,7 @@ some_config s asked (Some bytes) e =
     let reading = some_reading bytes asked.constant (folder asked.config) (Some s) in
     let r : Read Config = reading.0 in
     let told : (r.answer ≡ Untold → ⊥) =
-        answer_told bytes asked.constant (folder asked.config) s r reading.1 in
+    answer_told bytes asked.constant (folder asked.config) s r reading.1 in
     let at = some_answer asked.verb r.answer told in
     (at.0, (Some bytes, e, (r, reading.1, r.answer, says_itself r.answer, at.1)))
 

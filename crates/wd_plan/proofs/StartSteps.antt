@@ -31,7 +31,7 @@ from_place : (ss : List Service) (n : ℕ) (s : Service) → slice_get ss n ≡ 
 from_place ss n s e =
     let next : suc n ≡ n + 1 = omega arith in
     drop-cons ss n s (slice_get_within ss n s e) ∙ ap (λ x. x ∷ drop (suc n) ss) (get_or_from_slice_get ss n s s e)
-        ∙ ap (λ k. s ∷ drop k ss) next
+    ∙ ap (λ k. s ∷ drop k ss) next
 
 -- the Workers among a service and those behind it
 defs_with : (s : Service) (rest : List Service) (w : Option WorkerDef) → worker_in s.kind ≡ w
@@ -42,11 +42,11 @@ defs_with s rest w e = ap (λ o. add o (worker_defs rest)) e
 isolate_at : (ss : List Service) (n : ℕ) (s : Service) (def : WorkerDef) (text : List ℕ) (isolate : Constant)
     → slice_get ss n ≡ Some s → worker_in s.kind ≡ Some def → Comes def (Answers text)
     → isolate ≡ first_constant def (workers_in ss (worker_at (slice_get ss n))) text
-        → first_isolate constant_means ss def ≡ Some isolate
+    → first_isolate constant_means ss def ≡ Some isolate
 isolate_at ss n s def text isolate at worker comes is =
     let here : isolate ≡ first_constant def (workers_of ss def) text = is
-        ∙ ap (λ x. first_constant def (workers_in ss (worker_at x)) text) at
-        ∙ ap (λ w. first_constant def (workers_in ss w) text) worker in
+    ∙ ap (λ x. first_constant def (workers_in ss (worker_at x)) text) at
+    ∙ ap (λ w. first_constant def (workers_in ss w) text) worker in
     ap (option_map (first_constant def (workers_of ss def))) comes.1 ∙ ap Some (sym here)
 
 pub starting_first : (ss : List Service) → Starting ss [] 0
@@ -73,12 +73,12 @@ pub starting_more : (ss : List Service) (isolates : List Constant) (n : ℕ) (s 
     (text : List ℕ) (isolate : Constant) → Starting ss isolates n → slice_get ss n ≡ Some s
     → worker_in s.kind ≡ Some def → Comes def v → v ≡ Answers text
     → isolate ≡ first_constant def (workers_in ss (worker_at (slice_get ss n))) text
-        → Starting ss (isolates ++ isolate ∷ []) (n + 1)
+    → Starting ss (isolates ++ isolate ∷ []) (n + 1)
 starting_more ss isolates n s def v text isolate h at worker judged answers is =
     let comes : Comes def (Answers text) = subst (Comes def) answers judged in
     let e : drop n ss ≡ s ∷ drop (n + 1) ss = from_place ss n s at in
     let here : first_isolate constant_means ss def ≡ Some isolate =
-        isolate_at ss n s def text isolate at worker comes is in
+    isolate_at ss n s def text isolate at worker comes is in
     let rest : List (Option Constant) = map (first_isolate constant_means ss) (worker_defs (drop (n + 1) ss)) in
     record {
       made = h.made ∙ ap (λ l. map Some isolates ++ map (first_isolate constant_means ss) l) (ap worker_defs e
@@ -95,14 +95,16 @@ pub starting_refused : (ss : List Service) (isolates : List Constant) (n : ℕ) 
 starting_refused ss isolates n s def v reason script h at worker judged why is =
     let comes : Comes def (Refused reason) = subst (Comes def) why judged in
     h.left (Some script) (subst (λ l. FirstRefused l (Some script)) (sym (from_place ss n s at))
-        (inr (reason, subst (λ w. IsRefusedFor w reason) (sym worker) comes, ap Some is)))
+    (inr (reason, subst (λ w. IsRefusedFor w reason) (sym worker) comes, ap Some is)))
 
 pub started_all : (world : Config) (isolates : List Constant) (n : ℕ) → Starting world.services isolates n
     → length world.services ≤ n → AreFirst constant_means world isolates × FirstRefused world.services None
 started_all world isolates n h over =
-    let none : drop n world.services ≡ [] = drop_of_length-le world.services {i = n} over in
-    (h.made ∙ ap (λ l. map Some isolates ++ map (first_isolate constant_means world.services) (worker_defs l)) none
-        ∙ append-nil (map Some isolates), h.left None (subst (λ l. FirstRefused l None) (sym none) refl))
+    let none : drop n world.services ≡ [] = drop_of_length-le world.services {i = n} over in (
+      h.made ∙ ap (λ l. map Some isolates ++ map (first_isolate constant_means world.services) (worker_defs l)) none
+          ∙ append-nil (map Some isolates),
+      h.left None (subst (λ l. FirstRefused l None) (sym none) refl),
+    )
 
 -- ---- the first script that is refused is one alone
 

@@ -13,8 +13,12 @@ use Rattle.wd_plan.specs.Script.{answer_for}
 
 -- the reply of a script: 200 with a text
 abbrev pub text_reply : List ℕ → Reply
-text_reply text = record { status = 200; fields = (codes "content-type", codes "text/plain;charset=UTF-8") ∷ [];
-    body = text; why = Plain }
+text_reply text = record {
+  status = 200;
+  fields = (codes "content-type", codes "text/plain;charset=UTF-8") ∷ [];
+  body = text;
+  why = Plain;
+}
 
 -- the first isolate of a Worker whose script answers the text
 abbrev pub first_constant : WorkerDef → List (List ℕ) → List ℕ → Constant

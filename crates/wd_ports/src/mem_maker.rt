@@ -64,7 +64,10 @@ impl Maker for MemMaker {
     fn port(&mut self, alloc: Global, seat: Seat) -> Result<MemPort, Failed>
         ensures fails { IsErrOf result Failed.Fault ↔ IsTrue (is_failing self.old.fail self.old.calls) }
         ensures rest { self.new ≡ record self.old {
-            calls = next_call self.old.calls; faults = self.new.faults; given = self.new.given } }
+          calls = next_call self.old.calls;
+          faults = self.new.faults;
+          given = self.new.given;
+        } }
         ensures events { IfOk result (λ p. IsPlanned (plan_at self.old.plans seat).events p.schedule) }
         ensures unseen { IfOk result (λ p. unseen p ≡ new_unseen (plan_at self.old.plans seat) p.schedule) }
         ensures files { IfOk result (λ p. p.files ≡ planned_files (plan_at self.old.plans seat)) }

@@ -327,7 +327,7 @@ reports_shown notice held held' count count' status o (inl is) reports =
     subst (λ x. Reports x status held held' count count') is reports
 reports_shown notice held held' count count' status o (inr is) reports =
     let at : Reports outcome.NoMemory status held held' count count' =
-        subst (λ x. Reports x status held held' count count') is reports in
+    subst (λ x. Reports x status held held' count count') is reports in
     record {
       printed = 0;
       tells = at.tells ∙ ap (λ text. with_bytes text held) (take-nil at.printed);

@@ -338,5 +338,5 @@ pub head_asked : (bytes : List ℕ) (at : ℕ) (result : Bool) → behind_lines 
     → result ≡ asks_head bytes
 head_asked bytes at result passed stops is =
     let rest : take (length bytes - at) (drop at bytes) ≡ drop at bytes =
-        take_all _ _ (omega (arith, length-drop at bytes)) in
+    take_all _ _ (omega (arith, length-drop at bytes)) in
     is ∙ ap (λ b. starts_with nat_eq b (codes "HEAD ")) (rest ∙ sym stops ∙ sym passed)

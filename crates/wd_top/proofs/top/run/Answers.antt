@@ -10,8 +10,8 @@ pub returns-in-Err-clause-comes : goal.returns-in-Err-clause-comes
 returns-in-Err-clause-comes g c =
     let same = sym c.early.ensures.outcome in
     early_comes _ _ _ _ _ _ _ _ _ _ _ _ (subst IsEarly same c.in-Err.ensures.early)
-        (subst (IsCaused _) same c.in-Err.ensures.caused) c.early.ensures.journal (ap length c.requires)
-        (λ world k d h. absurd (no_item c.args.ports.now.items k c.requires h))
+    (subst (IsCaused _) same c.in-Err.ensures.caused) c.early.ensures.journal (ap length c.requires)
+    (λ world k d h. absurd (no_item c.args.ports.now.items k c.requires h))
 
 pub returns-in-Ok-clause-comes : goal.returns-in-Ok-clause-comes
 returns-in-Ok-clause-comes g c =
@@ -21,11 +21,11 @@ returns-in-Ok-clause-comes g c =
     let o = c.serve.result.outcome in
     let entries = c.serve.result.journal.entries in
     session_comes the_seat _ world o c.serve.result.journal (length ports)
-        (AtPorts the_seat g.M.Port.Files.told g.M.Port.Files.gone g.M.Port.Files.faults ports entries o)
-        said.end c.in-Ok.ensures.asked said.failed
-        (λ address is. listening_failed the_seat g.M.Port.Files.told g.M.Port.Files.gone g.M.Port.Files.faults ports
-        entries world o address is (one_listening world o address (length ports) is said.ran.one) said.ran.at)
-        said.ran
+    (AtPorts the_seat g.M.Port.Files.told g.M.Port.Files.gone g.M.Port.Files.faults ports entries o)
+    said.end c.in-Ok.ensures.asked said.failed
+    (λ address is. listening_failed the_seat g.M.Port.Files.told g.M.Port.Files.gone g.M.Port.Files.faults ports
+    entries world o address is (one_listening world o address (length ports) is said.ran.one) said.ran.at)
+    said.ran
 
 pub returns-in-Err-clause-words : goal.returns-in-Err-clause-words
 returns-in-Err-clause-words g c = subst (λ (o : Outcome). ForNotice c.args.words.now (λ notice. IsShown notice o))
