@@ -1,5 +1,5 @@
 -- The count of faults, with a part for each call.
-use Rattle.std.specs.Prelude.{◌≡◌, ℕ, ◌+◌, ◌≤◌, min, Result, Ok, Err, IsErrOf}
+use Rattle.std.specs.Prelude.{◌≡◌, ℕ, ◌+◌, ◌≤◌, min, Result, IsErrOf}
 use Rattle.wd_ports.specs.declared.told.Faults.{Faults}
 use Rattle.wd_ports.specs.declared.told.Failed.{Failed}
 use Rattle.wd_ports.specs.declared.told.Failed.TheVariants.{Fault, NoMemory}
@@ -68,11 +68,6 @@ pub record CountsFault {T : Type 0} (old new : ℕ) (result : Result T Failed) :
   pub later : old ≤ new
   pub fault : IsErrOf result Fault → Rose old new
   pub memory : IsErrOf result NoMemory → new ≡ old
-
--- how many ports were given, once a call came to this; the greatest u64 stays
-abbrev pub given_after : {T : Type 0} → Result T Failed → ℕ → ℕ
-given_after (Ok port) given = min (given + 1) 18446744073709551615
-given_after (Err e) given = given
 
 -- the count of an object that never failed
 abbrev pub no_faults : Faults

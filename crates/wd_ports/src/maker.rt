@@ -1,7 +1,7 @@
 ghost use Rattle.std.specs.Prelude.{◌≡◌, ◌≢◌, ℕ, ◌≤◌, Option, IfOk, IfSome, IsErrOf};
 ghost use Rattle.wd_base.specs.declared.ids.Seat.{Seat};
 ghost use Rattle.wd_ports.specs.Told.{Told, IsNewPort};
-ghost use Rattle.wd_ports.specs.Faults.{CountsFault, given_after, no_faults};
+ghost use Rattle.wd_ports.specs.Faults.{CountsFault, no_faults};
 
 use crate::port::{Files, Port};
 use crate::told::Failed;
@@ -18,9 +18,6 @@ pub trait Maker {
     /// How often `port` has failed; a count that never falls.
     ghost failures: { Self → ℕ };
 
-    /// How many ports `port` has given; at the greatest u64 it stays.
-    ghost given: { Self → ℕ };
-
     /// The port of a seat. It has no sockets and no links, has not answered `Closed`, and each
     /// part of its count is 0. What is told of the other seats stays.
     fn port(&mut self, alloc: Global, seat: Seat) -> Result<Self::Port, Failed>
@@ -29,6 +26,5 @@ pub trait Maker {
         ensures none { IfOk result (λ p. Self.Port.Files.faults p ≡ no_faults) }
         ensures others { (s : Seat) → s.0 ≢ seat.0 → plan self.new s ≡ plan self.old s }
         ensures blames { CountsFault (failures self.old) (failures self.new) result }
-        ensures gives { given self.new ≡ given_after result (given self.old) }
         ensures memory { IsErrOf result Failed.NoMemory → plan self.new seat ≡ plan self.old seat };
 }

@@ -1,6 +1,6 @@
 ghost use Rattle.std.specs.Prelude.{◌≡◌, ◌≢◌, ℕ, ◌+◌, ◌≤◌, [], Some, IfOk, IfSome, IsErrOf, IsTrue, ◌↔◌};
 ghost use Rattle.wd_base.specs.declared.ids.Seat.{Seat};
-ghost use Rattle.wd_ports.specs.Faults.{CountsFault, given_after, no_faults};
+ghost use Rattle.wd_ports.specs.Faults.{CountsFault, no_faults};
 ghost use Rattle.wd_ports.specs.MemFiles.{is_failing, next_call};
 ghost use Rattle.wd_ports.specs.MemPort.{empty_plan, mem_faults, mem_told, new_unseen, plan_at, planned_files, planned_told, unseen};
 ghost use Rattle.wd_ports.specs.Schedule.{IsPlanned};
@@ -25,8 +25,6 @@ pub struct MemMaker {
     pub calls: u64,
     /// How many of them failed.
     pub faults: u64,
-    /// How many of them gave a port.
-    pub given: u64,
 }
 
 /// The plan by which nothing happens. It takes no memory.
@@ -59,15 +57,9 @@ impl Maker for MemMaker {
 
     ghost failures = { λ m. m.faults };
 
-    ghost given = { λ m. m.given };
-
     fn port(&mut self, alloc: Global, seat: Seat) -> Result<MemPort, Failed>
         ensures fails { IsErrOf result Failed.Fault ↔ IsTrue (is_failing self.old.fail self.old.calls) }
-        ensures rest { self.new ≡ record self.old {
-          calls = next_call self.old.calls;
-          faults = self.new.faults;
-          given = self.new.given;
-        } }
+        ensures rest { self.new ≡ record self.old { calls = next_call self.old.calls; faults = self.new.faults } }
         ensures events { IfOk result (λ p. IsPlanned (plan_at self.old.plans seat).events p.schedule) }
         ensures unseen { IfOk result (λ p. unseen p ≡ new_unseen (plan_at self.old.plans seat) p.schedule) }
         ensures files { IfOk result (λ p. p.files ≡ planned_files (plan_at self.old.plans seat)) }
@@ -76,7 +68,6 @@ impl Maker for MemMaker {
         ensures none { IfOk result (λ p. mem_faults p ≡ no_faults) }
         ensures others { (s : Seat) → s.0 ≢ seat.0 → plan_at self.new.plans s ≡ plan_at self.old.plans s }
         ensures blames { CountsFault self.old.faults self.new.faults result }
-        ensures gives { self.new.given ≡ given_after result self.old.given }
         ensures memory { IsErrOf result Failed.NoMemory → plan_at self.new.plans seat ≡ plan_at self.old.plans seat }
     {
         if fails_now(&self.fail, &mut self.calls) {
@@ -84,8 +75,6 @@ impl Maker for MemMaker {
             return Err(Failed::Fault);
         }
         let plan = plan_of(alloc, &self.plans, seat)?;
-        let port = MemPort::new(alloc, plan)?;
-        self.given = self.given.saturating_add(1);
-        Ok(port)
+        Ok(MemPort::new(alloc, plan)?)
     }
 }

@@ -556,7 +556,6 @@ fn maker_of_one(alloc: Global) -> Result<MemMaker, NoMemory> {
         fail,
         calls: 0,
         faults: 0,
-        given: 0,
     })
 }
 

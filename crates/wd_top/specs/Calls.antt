@@ -1,5 +1,5 @@
 -- What a call is given and what it leaves, by what its file store, its maker, its ports and its sink tell.
-use Rattle.std.specs.Prelude.{◌≡◌, ◌⊎◌, ℕ, ◌+◌, ◌<◌, min, List, [], ◌∷◌, map, Option, None, IfSome, All}
+use Rattle.std.specs.Prelude.{◌≡◌, ◌⊎◌, ℕ, ◌<◌, List, [], ◌∷◌, map, Option, None, IfSome, All}
 use Rattle.std.specs.Prelude.{String, string_bytes}
 use Rattle.wd_base.specs.declared.config.Config.{Config}
 use Rattle.wd_base.specs.declared.ids.LinkNo.{LinkNo}
@@ -64,11 +64,6 @@ call_with words told faults files files' failures maker maker' port_faults ports
 -- a call that serves nothing
 abbrev pub call_offline : {Z F : Type 0} → List (String Z) → (F → Told) → (F → Faults) → F → F → Call
 call_offline words told faults files files' = call_over words told faults files files' ⊥ ⊥
-
--- the ports that are handed out are those that the maker gave, by how many it had given: none, or one
-abbrev pub HandsOut : ℕ → ℕ → ℕ → Type 0
-HandsOut ports given given' = ((ports ≡ 0) × (given' ≡ given))
-    ⊎ ((ports ≡ 1) × (given' ≡ min (given + 1) 18446744073709551615))
 
 -- what is printed to a sink, by what it held and how often it failed, before it and after it
 abbrev pub printed_to : {K : Type 0} → (K → Option (List ℕ)) → (K → ℕ) → K → K → Printed

@@ -3,7 +3,7 @@ ghost use Rattle.wd_ports.specs.Faults.{Rose};
 ghost use Rattle.wd_ports.specs.Told.{IsNewPort};
 ghost use Rattle.wd_top.specs.declared.outcome.Outcome.TheVariants as outcome;
 ghost use Rattle.wd_top.specs.Board.{IsOver};
-ghost use Rattle.wd_top.specs.Calls.{AtPorts, HandsOut, KeepFiles};
+ghost use Rattle.wd_top.specs.Calls.{AtPorts, KeepFiles};
 ghost use Rattle.wd_top.specs.Ended.{HasPort, Holds, IsFront, IsListenEnd, IsPortFault, IsSessionEnd};
 ghost use Rattle.wd_top.specs.Ended.{Listens, NoPortMade};
 ghost use Rattle.wd_top.specs.Table.{addresses, SameFiles};
@@ -100,7 +100,6 @@ pub fn run_ports<R: Wait, M: Maker, I: Isolate>(
     ensures idle { board.old.0.world.sockets ≡ [] → length ports.new.items ≡ 0 }
     ensures unheard { length ports.new.items ≡ 0 → board.new.1 ≡ [] }
     ensures failed { NoPortMade result → Rose (M.failures maker.old) (M.failures maker.new) }
-    ensures given { HandsOut (length ports.new.items) (M.given maker.old) (M.given maker.new) }
     ensures over { result ≡ outcome.Done → IsOver I.means board.new.0.world board.new.1 }
     ensures unused { IsPortFault result → board.new.1 ≡ [] }
     ensures files { KeepFiles board.old.0.seat M.plan maker.old M.Port.Files.told ports.new.items }

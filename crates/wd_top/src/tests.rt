@@ -280,7 +280,6 @@ fn maker_of(alloc: Global, around: &Around<'_>) -> Result<MemMaker, NoMemory> {
         fail,
         calls: 0,
         faults: 0,
-        given: 0,
     })
 }
 

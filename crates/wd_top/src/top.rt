@@ -7,7 +7,7 @@ ghost use Rattle.wd_plan.specs.Constant.{constant_means};
 ghost use Rattle.wd_plan.specs.Prepare.{IsPrepared};
 ghost use Rattle.wd_ports.specs.Faults.{ReadFile, Rose, part};
 ghost use Rattle.wd_top.specs.declared.outcome.Outcome.TheVariants as OutcomeIs;
-ghost use Rattle.wd_top.specs.Calls.{AskToServe, AtPorts, ForNotice, HandsOut, HasCause, IsShown};
+ghost use Rattle.wd_top.specs.Calls.{AskToServe, AtPorts, ForNotice, HasCause, IsShown};
 ghost use Rattle.wd_top.specs.Calls.{KeepFiles, ReportsNotice};
 ghost use Rattle.wd_top.specs.Calls.{call_offline, call_with, printed_to, spoken, the_seat};
 ghost use Rattle.wd_top.specs.Ended.{Comes, Ends, EndsOffline, IsCaused, IsEarly, IsSessionEnd, NoPortMade};
@@ -78,7 +78,6 @@ fn serve<R: Wait, M: Maker>(
         result.journal.entries result.outcome world) }
     ensures end { IsSessionEnd the_seat result.outcome }
     ensures failed { NoPortMade result.outcome → Rose (M.failures maker.old) (M.failures maker.new) }
-    ensures given { HandsOut (length ports.new.items) (M.given maker.old) (M.given maker.new) }
     ensures files { KeepFiles the_seat M.plan maker.old M.Port.Files.told ports.new.items }
 {
     match Board::new(alloc, Seat(0), world, isolates) {
@@ -139,7 +138,6 @@ fn run<R: Wait, F: Files, M: Maker>(
     ensures words { ForNotice words.now (λ notice. IsShown notice result.outcome) }
     ensures later { part ReadFile (F.faults files.old) ≤ part ReadFile (F.faults files.new) }
     ensures tells { F.told files.new ≡ F.told files.old }
-    ensures given { HandsOut (length ports.new.items) (M.given maker.old) (M.given maker.new) }
     ensures files { KeepFiles the_seat M.plan maker.old M.Port.Files.told ports.new.items }
 {
     match begin(alloc, words, files) {
@@ -204,7 +202,6 @@ pub fn workerd<R: Threads + Wait + Sync, F: Files, M: Maker, K: Sink, G: Gate>(
         (printed_to K.held K.failures out.old out.new) result.status }
     ensures words { ForNotice words.now
         (ReportsNotice (printed_to K.held K.failures out.old out.new) result.status) }
-    ensures given { HandsOut (length result.ports.items) (M.given maker.old) (M.given maker.new) }
     ensures later { part ReadFile (F.faults files.old) ≤ part ReadFile (F.faults files.new) }
     ensures files { F.told files.new ≡ F.told files.old }
     ensures disks { KeepFiles the_seat M.plan maker.old M.Port.Files.told result.ports.items }

@@ -14,20 +14,14 @@ use wd_ports::{Failed, Maker};
 pub struct SystemMaker<R> {
     rt: R,
     faults: u64,
-    given: u64,
 }
 
 impl<R> SystemMaker<R> {
-    /// A maker that has given no port and counted no fault.
+    /// A maker that has made no port and counted no fault.
     pub fn new(rt: R) -> SystemMaker<R>
-        ensures faults { result.faults ≡ 0 }
-        ensures given { result.given ≡ 0 }
+        ensures { result.faults ≡ 0 }
     {
-        SystemMaker {
-            rt,
-            faults: 0,
-            given: 0,
-        }
+        SystemMaker { rt, faults: 0 }
     }
 }
 
@@ -40,14 +34,9 @@ impl<R: FileSystem + AllocGlobal + Input + Net + Copy + Drop + Send> Maker for S
 
     ghost failures = { λ m. m.faults };
 
-    ghost given = { λ m. m.given };
-
     fn port(&mut self, alloc: Global, _seat: Seat) -> Result<SystemPort<R>, Failed> {
         match SystemPort::new(self.rt, alloc) {
-            Ok(port) => {
-                self.given = self.given.saturating_add(1);
-                Ok(port)
-            }
+            Ok(port) => Ok(port),
             Err(trouble) => Err(blame(&mut self.faults, trouble)),
         }
     }
