@@ -1,6 +1,8 @@
 -- The heads of a response: interim ones, which are skipped, and the one that tells how far the body goes.
-use Rattle.std.specs.Prelude.{◌≡◌, ℕ, ◌+◌, ◌-◌, ◌≤◌, Bool, ◌&&◌, ◌||◌, ◌==◌, List, [], ◌∷◌, length, take, map, nat_lt, nat_le, if◌then◌else◌, codes, Result, Ok, Err}
-use Rattle.httparse.specs.Grammar.{ResponseHead, print_response, status_code, ReadsResponse, HasNoResponse, MayBecomeResponse}
+use Rattle.std.specs.Prelude.{◌≡◌, ℕ, ◌+◌, ◌-◌, ◌≤◌, Bool, ◌&&◌, ◌||◌, ◌==◌, List, [], ◌∷◌, length, take, map, nat_lt}
+use Rattle.std.specs.Prelude.{nat_le, if◌then◌else◌, codes, Result, Ok, Err}
+use Rattle.httparse.specs.Grammar.{ResponseHead, print_response, status_code, ReadsResponse, HasNoResponse}
+use Rattle.httparse.specs.Grammar.{MayBecomeResponse}
 use Rattle.httparse.specs.Spans.{name_and_value}
 use Rattle.http_message.specs.declared.extent.Extent.{Extent}
 use Rattle.http_message.specs.declared.extent.Extent.TheVariants as extent
@@ -74,7 +76,8 @@ front before bytes = take (max_head - before - 1) bytes
 -- what is refused in place of a head: bytes that begin none, and bytes that hold no whole one.
 -- A byte at the window's last place that no head has there makes it too large, and not malformed.
 abbrev pub RefusesHead : ℕ → List ℕ → Refusal → Type 0
-RefusesHead before bytes refusal.Malformed = HasNoResponse (front before bytes) × (MayBecomeResponse (front before bytes) → ⊥)
+RefusesHead before bytes refusal.Malformed =
+    HasNoResponse (front before bytes) × (MayBecomeResponse (front before bytes) → ⊥)
 RefusesHead before bytes refusal.TooLarge =
     (max_head ≤ before + length bytes) × HasNoResponse (window before bytes) × MayBecomeResponse (front before bytes)
 
@@ -84,7 +87,8 @@ pub record ReadsTelling
   pub reads : ReadsHead before bytes head rest
   pub tells : told_of to_head head ≡ Ok what
 
--- the bytes begin with these heads, one behind another, all of interim responses; the heads have so many bytes before and after
+-- the bytes begin with these heads, one behind another, all of interim responses; the heads have so many bytes before
+-- and after
 abbrev pub Skips : Bool → ℕ → List ℕ → List ResponseHead → ℕ → List ℕ → Type 0
 Skips to_head before bytes [] after rest = (before ≡ after) × (bytes ≡ rest)
 Skips to_head before bytes (head ∷ heads) after rest =

@@ -1,5 +1,6 @@
 -- The response in the bytes that a peer sends on a link.
-use Rattle.std.specs.Prelude.{◌≡◌, ◌<◌, ◌≤◌, ◌⊎◌, ℕ, Bool, true, false, not, List, [], ◌++◌, length, map, filter, Err}
+use Rattle.std.specs.Prelude.{◌≡◌, ◌<◌, ◌≤◌, ◌⊎◌, ℕ, Bool, true, false, not, List, [], ◌++◌, length, map, filter}
+use Rattle.std.specs.Prelude.{Err}
 use Rattle.std.specs.Char.{to_ascii_lowercase}
 use Rattle.httparse.specs.Grammar.{ResponseHead, status_code}
 use Rattle.http_message.specs.declared.extent.Refusal.{Refusal}
@@ -107,5 +108,6 @@ unfinished false = heard.Later
 abbrev pub Hears : Bool → Bool → List ℕ → Heard → Type 0
 Hears to_head ended bytes (heard.Reply reply) = Holds to_head ended bytes reply
 Hears to_head ended bytes heard.Large = Refuses to_head bytes refusal.TooLarge
-Hears to_head ended bytes heard.Bad = Refuses to_head bytes refusal.Malformed ⊎ ((ended ≡ true) × IsUnfinished to_head ended bytes)
+Hears to_head ended bytes heard.Bad =
+    Refuses to_head bytes refusal.Malformed ⊎ ((ended ≡ true) × IsUnfinished to_head ended bytes)
 Hears to_head ended bytes heard.Later = (ended ≡ false) × IsUnfinished to_head ended bytes

@@ -1,6 +1,7 @@
 -- What the steps through a response find.
 use Rattle.std.specs.Prelude.{◌≡◌, ◌<◌, ◌≤◌, ◌⊎◌, ℕ, Bool, List, [], length, drop}
-use Rattle.httparse.specs.Grammar.{ResponseHead, print_response, ReadsResponse, HasNoResponse, NeverHasResponse, MayBecomeResponse}
+use Rattle.httparse.specs.Grammar.{ResponseHead, print_response, ReadsResponse, HasNoResponse, NeverHasResponse}
+use Rattle.httparse.specs.Grammar.{MayBecomeResponse}
 use Rattle.httparse.specs.Spans.{IsResponseWithin, IsResponseOf}
 use Rattle.httparse.specs.declared.spans.HeaderSpan.{HeaderSpan}
 use Rattle.http_message.specs.declared.extent.Refusal.{Refusal}
@@ -31,7 +32,8 @@ pub record HasManyFields (bytes : List ℕ) : Type 0 where
 
 -- a head at the front would have more fields than it may have
 abbrev pub IsPastRoom : List ℕ → Type 0
-IsPastRoom bytes = (head : ResponseHead) (rest : List ℕ) → ReadsResponse bytes head rest → max_fields < length head.fields
+IsPastRoom bytes =
+    (head : ResponseHead) (rest : List ℕ) → ReadsResponse bytes head rest → max_fields < length head.fields
 
 -- what the parser found: a head whose fields stand in the places, one of too many fields, less than a head, or none ever
 abbrev pub IsFoundIn : List ℕ → List HeaderSpan → Found → Type 0
@@ -65,11 +67,13 @@ BeginsWith to_head before bytes head_seen.Later = HasNoHead before bytes
 BeginsWith to_head before bytes (head_seen.Interim size) = IsHead to_head before bytes told.Interim size
 BeginsWith to_head before bytes (head_seen.Last reply reach size) =
     (h : IsHead to_head before bytes (told.Last reach) size) × (reply ≡ reply_of h.head [])
-BeginsWith to_head before bytes (head_seen.Refused why) = RefusesHead before bytes why ⊎ RefusesTold to_head before bytes why
+BeginsWith to_head before bytes (head_seen.Refused why) =
+    RefusesHead before bytes why ⊎ RefusesTold to_head before bytes why
 
 -- what a head shows that the parser found in the window, with so many bytes of heads before it
 abbrev pub Accepts : Bool → List ℕ → HeadSeen → Type 0
-Accepts to_head found seen = (before : ℕ) (bytes : List ℕ) → before ≤ max_head → found ≡ window before bytes → BeginsWith to_head before bytes seen
+Accepts to_head found seen = (before : ℕ) (bytes : List ℕ) → before ≤ max_head → found ≡ window before bytes
+    → BeginsWith to_head before bytes seen
 
 -- interim heads of so many bytes were read
 pub record IsSkipped (to_head : Bool) (bytes : List ℕ) (at : ℕ) : Type 0 where

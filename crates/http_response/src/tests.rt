@@ -167,7 +167,8 @@ fn a_response_to_head_has_no_body(rt: HostRuntime) -> Result<(), Fail> {
 }
 
 const WHOLE: &[u8] =
-    b"HTTP/1.1 103 E\r\nX: y\r\n\r\n\r\nHTTP/1.1 200 OK\r\nX-A: b\r\nConnection: close\r\nTE: x\r\nSet-Cookie: c\r\nTransfer-Encoding: chunked\r\n\r\n2\r\nde\r\n1\r\nf\r\n0\r\n\r\n";
+    b"HTTP/1.1 103 E\r\nX: y\r\n\r\n\r\nHTTP/1.1 200 OK\r\nX-A: b\r\nConnection: close\r\nTE: x\r\n\
+    Set-Cookie: c\r\nTransfer-Encoding: chunked\r\n\r\n2\r\nde\r\n1\r\nf\r\n0\r\n\r\n";
 
 #[test]
 fn a_response_may_be_cut_anywhere(rt: HostRuntime) -> Result<(), Fail> {
