@@ -786,7 +786,7 @@ fn words_that_are_no_command_line(rt: HostRuntime) -> Result<(), Fail> {
         &[],
         &["serve"],
         &["serve", "config.capnp", "--threads", "0"],
-        &["serve", "config.capnp", "--threads", "1", "more"],
+        &["serve", "config.capnp", "one", "--threads", "1", "more"],
     ];
     for words in cases {
         let around = Around {
