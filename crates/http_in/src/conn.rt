@@ -63,6 +63,13 @@ impl Conn {
         }
     }
 
+    /// The bytes that are not taken yet; after a refusal these are the bytes that were refused.
+    pub fn unread(&self) -> &[u8]
+        ensures { result.now ≡ self.now.queue }
+    {
+        self.queue.as_slice()
+    }
+
     /// Adds a piece, which may be empty, and reads the next request. Further requests may be there
     /// after one was read. For want of memory the link stays as it was.
     pub fn feed(&mut self, alloc: Global, piece: &[u8]) -> Result<Fed, NoMemory>

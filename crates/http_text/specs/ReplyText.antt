@@ -14,9 +14,13 @@ phrase_of status = if nat_le 100 status && nat_lt status 1000 then unwrap_or (re
 abbrev pub status_line : ℕ → List ℕ
 status_line status = codes "HTTP/1.1 " ++ (decimal status ++ (32 ∷ (phrase_of status ++ crlf)))
 
--- replies of these codes have neither a body nor a length (RFC 9110, section 8.6)
+-- a reply of this code is interim: another one follows it (RFC 9110, section 15.2)
+abbrev pub is_interim : ℕ → Bool
+is_interim status = nat_le 100 status && nat_lt status 200
+
+-- replies of these codes have neither a body nor a length (RFC 9110, section 8.6; RFC 9112, section 6.3)
 abbrev pub is_unsized : ℕ → Bool
-is_unsized status = status == 204 || status == 304
+is_unsized status = is_interim status || (status == 204 || status == 304)
 
 -- a reply of this code has no body (RFC 9110, section 15.3.6), and its length is 0
 abbrev pub is_reset : ℕ → Bool

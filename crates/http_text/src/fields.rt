@@ -38,7 +38,7 @@ pub fn push_length(alloc: Global, text: &mut Vec<u8>, size: usize) -> Result<(),
 
 /// The field is of one link alone (RFC 9110, section 7.6.1) or states the length.
 #[tactic(auto, unfolding(crate::specs::Fields::is_own_field))]
-fn is_own_field(name: &[u8]) -> bool
+pub fn is_own_field(name: &[u8]) -> bool
     ensures { result ≡ is_own_field name.now }
 {
     name == b"connection".as_slice()

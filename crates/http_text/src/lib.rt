@@ -12,6 +12,7 @@ mod request;
 #[cfg(test)]
 mod tests;
 
+pub use fields::is_own_field;
 pub use phrases::{bad_reply, phrase};
 pub use reply::reply_text;
 pub use request::request_text;

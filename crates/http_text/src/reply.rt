@@ -1,7 +1,7 @@
 ghost use Rattle.std.specs.Prelude.{◌≡◌, ◌++◌, IfOk, OnOk, flat_map, false, true};
 ghost use Rattle.http_text.specs.Fields.{kept_line};
-ghost use Rattle.http_text.specs.ReplyText.{status_line, is_unsized, is_reset, stated_length, sent_body};
-ghost use Rattle.http_text.specs.ReplyText.{head_end, reply_text};
+ghost use Rattle.http_text.specs.ReplyText.{status_line, is_interim, is_unsized, is_reset, stated_length};
+ghost use Rattle.http_text.specs.ReplyText.{sent_body, head_end, reply_text};
 
 use crate::fields::{push_kept, push_length};
 use crate::phrases::phrase;
@@ -83,11 +83,19 @@ fn head_end(close: bool) -> &'static [u8]
     }
 }
 
-/// 204 and 304: replies of these codes have neither a body nor a length (RFC 9110, section 8.6).
+/// From 100 to 199: another reply follows one of these codes (RFC 9110, section 15.2).
+fn is_interim(status: u16) -> bool
+    ensures { result ≡ is_interim status }
+{
+    100 <= status && status < 200
+}
+
+/// 204, 304 and those of interim replies: replies of these codes have neither a body nor a length
+/// (RFC 9110, section 8.6; RFC 9112, section 6.3).
 fn is_unsized(status: u16) -> bool
     ensures { result ≡ is_unsized status }
 {
-    status == 204 || status == 304
+    is_interim(status) || (status == 204 || status == 304)
 }
 
 /// 205: a reply of this code has no body, and its length is 0 (RFC 9110, section 15.3.6).

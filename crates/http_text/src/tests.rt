@@ -28,7 +28,7 @@ fn reply_of(
 
 #[test]
 fn replies_have_the_bytes_of_their_kind(rt: HostRuntime) -> Result<(), Fail> {
-    let rows: [(u16, &[u8], bool, bool, &[u8]); 7] = [
+    let rows: [(u16, &[u8], bool, bool, &[u8]); 9] = [
         (
             200,
             b"Hello World\n",
@@ -43,6 +43,14 @@ fn replies_have_the_bytes_of_their_kind(rt: HostRuntime) -> Result<(), Fail> {
             true,
             b"HTTP/1.1 200 OK\r\na: b\r\ncontent-length: 12\r\nconnection: close\r\n\r\n",
         ),
+        (
+            103,
+            b"x",
+            false,
+            false,
+            b"HTTP/1.1 103 Early Hints\r\na: b\r\n\r\n",
+        ),
+        (199, b"x", false, false, b"HTTP/1.1 199 \r\na: b\r\n\r\n"),
         (
             204,
             b"x",
@@ -163,7 +171,9 @@ fn the_first_worked_row(rt: HostRuntime) -> Result<(), Fail> {
     let reply = reply_of(rt.alloc(), 200, &pairs, b"Hello World\n")?;
     let text = reply_text(rt.alloc(), &reply, false, false)?;
     let want =
-        b"HTTP/1.1 200 OK\r\ncontent-type: text/plain;charset=UTF-8\r\ncontent-length: 12\r\n\r\nHello World\n".as_slice();
+        b"HTTP/1.1 200 OK\r\ncontent-type: text/plain;charset=UTF-8\r\ncontent-length: 12\r\n\
+        \r\nHello World\n"
+            .as_slice();
     assert!(rt; text.as_slice() == want);
     Ok(())
 }
@@ -172,8 +182,9 @@ fn the_first_worked_row(rt: HostRuntime) -> Result<(), Fail> {
 fn refusals_have_their_phrase(rt: HostRuntime) -> Result<(), Fail> {
     let reply = bad_reply(rt.alloc(), 413)?;
     let text = reply_text(rt.alloc(), &reply, false, true)?;
-    let want =
-        b"HTTP/1.1 413 Payload Too Large\r\ncontent-type: text/plain;charset=UTF-8\r\ncontent-length: 17\r\nconnection: close\r\n\r\nPayload Too Large".as_slice();
+    let want = b"HTTP/1.1 413 Payload Too Large\r\ncontent-type: text/plain;charset=UTF-8\r\n\
+        content-length: 17\r\nconnection: close\r\n\r\nPayload Too Large"
+        .as_slice();
     assert!(rt; text.as_slice() == want);
     assert!(rt; phrase(400) == "Bad Request");
     Ok(())

@@ -1,2 +1,3 @@
 mod VerdictLaws
 pub mod OneVerdict
+pub mod SomeVerdict

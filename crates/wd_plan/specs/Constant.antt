@@ -13,7 +13,12 @@ use Rattle.wd_plan.specs.Script.{answer_for}
 
 -- the reply of a script: 200 with a text
 abbrev pub text_reply : List ℕ → Reply
-text_reply text = record { status = 200; fields = (codes "content-type", codes "text/plain;charset=UTF-8") ∷ []; body = text; why = Plain }
+text_reply text = record {
+  status = 200;
+  fields = (codes "content-type", codes "text/plain;charset=UTF-8") ∷ [];
+  body = text;
+  why = Plain;
+}
 
 -- the first isolate of a Worker whose script answers the text
 abbrev pub first_constant : WorkerDef → List (List ℕ) → List ℕ → Constant
@@ -51,12 +56,14 @@ record HasText (def : WorkerDef) (names : List (List ℕ)) (s : Constant) : Type
   is : first_constant def names text ≡ s
 
 -- law: the first state of such an isolate has a text, if there is a first state
-has_text : (def : WorkerDef) (names : List (List ℕ)) (s : Constant) (answer : Option (List ℕ)) → option_map (first_constant def names) answer ≡ Some s → HasText def names s
+has_text : (def : WorkerDef) (names : List (List ℕ)) (s : Constant) (answer : Option (List ℕ))
+    → option_map (first_constant def names) answer ≡ Some s → HasText def names s
 has_text def names s None e = absurd (none_some e)
 has_text def names s (Some text) e = record { text = text; is = ap (λ o. unwrap_or o s) e }
 
 -- law: the first state of a Worker's isolate has a text
-first_text : (def : WorkerDef) (names : List (List ℕ)) (s : Constant) → constant.start def names ≡ Some s → HasText def names s
+first_text : (def : WorkerDef) (names : List (List ℕ)) (s : Constant) → constant.start def names ≡ Some s
+    → HasText def names s
 first_text def names s e = has_text def names s (answer_for def) e
 
 -- law: the meaning of a fixed reply keeps all laws that an isolate must keep

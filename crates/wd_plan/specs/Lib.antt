@@ -1,4 +1,3 @@
-pub mod Command
 pub mod Reason
 pub mod Script
 pub mod Constant

@@ -1,18 +1,18 @@
 -- What the words and the files ask for.
 use Rattle.std.specs.Prelude.{◌≡◌, ◌⊎◌, ℕ, Bool, true, false, ◌&&◌, List, Option, Some, None, IfSome, codes}
 use Rattle.wd_base.specs.declared.config.Config.{Config}
+use Rattle.wd_command.specs.declared.command.Verb.{Verb}
+use Rattle.wd_command.specs.declared.command.Verb.TheVariants as verb
+use Rattle.wd_command.specs.Command.{Asked, Wish, runs, shows, command, wish}
 use Rattle.wd_config.specs.declared.faults.ConfigFault.{ConfigFault}
 use Rattle.wd_config.specs.declared.faults.ConfigKind.TheVariants.{LeftOut}
 use Rattle.wd_config.specs.Answer.{Answers}
-use Rattle.wd_config.specs.Reading.{Answer, Found, Refused, Untold, Read, HasEmbed}
+use Rattle.wd_config.specs.Reading.{Answer, Found, Refused, Untold, Read, HasEmbed, Says}
 use Rattle.wd_graph.specs.declared.linking.GraphFault.{GraphFault}
 use Rattle.wd_graph.specs.Links.{first_unknown, linked}
-use Rattle.wd_plan.specs.declared.command.Verb.{Verb}
-use Rattle.wd_plan.specs.declared.command.Verb.TheVariants as verb
 use Rattle.wd_plan.specs.declared.reason.RefusedScript.{RefusedScript}
 use Rattle.wd_plan.specs.declared.refusal.Refusal.{Refusal}
 use Rattle.wd_plan.specs.declared.refusal.Refusal.TheVariants as refusal
-use Rattle.wd_plan.specs.Command.{Asked, command}
 use Rattle.wd_plan.specs.Folder.{folder}
 use Rattle.wd_plan.specs.Starts.{are_plain, are_at_workers, FirstRefused}
 use Rattle.wd_ports.specs.Told.{Stored, file_at}
@@ -38,7 +38,8 @@ at_script v world (Some script) = Refuses (refusal.Script script)
 
 -- at the scripts of a world
 abbrev pub AtScripts : Verb → Config → Plan → Type 0
-AtScripts v world plan = (found : Option RefusedScript) × FirstRefused world.services found × (plan ≡ at_script v world found)
+AtScripts v world plan = (found : Option RefusedScript) × FirstRefused world.services found
+    × (plan ≡ at_script v world found)
 
 -- at the kinds of its services
 abbrev pub AtKinds : Verb → Config → Bool → Plan → Type 0
@@ -60,20 +61,31 @@ AtAnswer v Untold plan = ⊥
 abbrev pub IsReading : Option Stored → Asked → List ℕ → Read Config → Type 0
 IsReading files asked bytes r = Answers bytes asked.constant (folder asked.config) files r
 
--- at the configuration's file
-abbrev pub AtFile : Stored → Asked → Option (List ℕ) → Plan → Type 0
+-- the file of this path has these bytes, or there is none; where the files are not told, it may have any
+abbrev pub MayHold : Option Stored → List ℕ → Option (List ℕ) → Type 0
+MayHold files path bytes = IfSome files (λ s. file_at s path ≡ bytes)
+
+-- at the configuration's file: at what its reading answers, which may be anything where an embed is not told
+abbrev pub AtFile : Option Stored → Asked → Option (List ℕ) → Plan → Type 0
 AtFile files asked None plan = plan ≡ Refuses (refusal.MissingFile asked.config)
-AtFile files asked (Some bytes) plan = (r : Read Config) × IsReading (Some files) asked bytes r × AtAnswer asked.verb r.answer plan
+AtFile files asked (Some bytes) plan =
+    (r : Read Config) × IsReading files asked bytes r × (a : Answer Config) × Says a r.answer
+    × AtAnswer asked.verb a plan
 
--- at the command
--- (the plan of a parsed command line: refused where there is none; else what its configuration asks for)
-abbrev pub AtCommand : Stored → Option Asked → Plan → Type 0
-AtCommand files None plan = plan ≡ Refuses refusal.CommandLine
-AtCommand files (Some asked) plan = AtFile files asked (file_at files asked.config) plan
+-- at the configuration of a command
+abbrev pub AtConfig : Option Stored → Asked → Plan → Type 0
+AtConfig files asked plan = (bytes : Option (List ℕ)) × MayHold files asked.config bytes
+    × AtFile files asked bytes plan
 
--- the words and the files ask for this; they ask for one plan alone
-unfoldable pub Plans : List (List ℕ) → Stored → Plan → Type 0
-Plans words files plan = AtCommand files (command words) plan
+-- at what the words ask for: a notice, or what the configuration of a command asks for
+abbrev pub AtWish : Option Stored → Wish → Plan → Type 0
+AtWish files (shows notice) plan = plan ≡ Refuses (refusal.NoCommand notice)
+AtWish files (runs asked) plan = AtConfig files asked plan
+
+-- The words and the files ask for this. Where the files are told, they ask for one plan alone; where they are not, this
+-- is what they ask for with some bytes of the configuration's file and some answers to its embeds.
+unfoldable pub Plans : List (List ℕ) → Option Stored → Plan → Type 0
+Plans words files plan = AtWish files (wish words) plan
 
 -- the reading comes to an embed of this path, as it is written
 abbrev pub HasPath : Read Config → List ℕ → Type 0
@@ -85,7 +97,8 @@ EmbedsPath files asked bytes path = (r : Read Config) × IsReading files asked b
 
 -- a file that is embedded in the configuration of a command
 abbrev pub IsEmbedded : Option Stored → Asked → List ℕ → Type 0
-IsEmbedded files asked path = (bytes : List ℕ) × IfSome files (λ s. file_at s asked.config ≡ Some bytes) × EmbedsPath files asked bytes path
+IsEmbedded files asked path = (bytes : List ℕ) × MayHold files asked.config (Some bytes)
+    × EmbedsPath files asked bytes path
 
 -- a file that is read for a command: its configuration, or one that this embeds
 abbrev pub IsReadFor : Option Stored → Asked → List ℕ → Type 0

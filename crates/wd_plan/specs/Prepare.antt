@@ -1,6 +1,8 @@
 -- What the code came to, against the plan.
-use Rattle.std.specs.Prelude.{◌≡◌, ◌⊎◌, ◌≤◌, ℕ, List, length, Option, Some, None, Result, Ok, Err}
+use Rattle.std.specs.Prelude.{◌≡◌, ◌⊎◌, ◌≤◌, ℕ, List, length, Option, Some, None, Result, Ok, Err, IsErrAnd}
 use Rattle.wd_base.specs.declared.config.Config.{Config}
+use Rattle.wd_command.specs.declared.command.Verb.{Verb}
+use Rattle.wd_command.specs.Command.{Asked, Wish, runs, shows}
 use Rattle.wd_config.specs.declared.faults.ConfigEnd.{ConfigEnd}
 use Rattle.wd_config.specs.declared.faults.ConfigEnd.TheVariants as config_end
 use Rattle.wd_config.specs.declared.faults.ConfigFault.{ConfigFault}
@@ -8,7 +10,6 @@ use Rattle.wd_config.specs.declared.faults.ConfigKind.{ConfigKind}
 use Rattle.wd_config.specs.declared.faults.ConfigKind.TheVariants as kind
 use Rattle.wd_graph.specs.Links.{first_unknown}
 use Rattle.wd_machine.specs.First.{AreFirst}
-use Rattle.wd_plan.specs.declared.command.Verb.{Verb}
 use Rattle.wd_plan.specs.declared.ready.Found.{Found}
 use Rattle.wd_plan.specs.declared.ready.Found.TheVariants as found
 use Rattle.wd_plan.specs.declared.ready.PlanEnd.{PlanEnd}
@@ -16,16 +17,16 @@ use Rattle.wd_plan.specs.declared.ready.PlanEnd.TheVariants as end
 use Rattle.wd_plan.specs.declared.ready.Ready.{Ready}
 use Rattle.wd_plan.specs.declared.refusal.Refusal.{Refusal}
 use Rattle.wd_plan.specs.declared.refusal.Refusal.TheVariants as refusal
-use Rattle.wd_plan.specs.Command.{Asked}
 use Rattle.wd_plan.specs.Constant.{constant_means}
-use Rattle.wd_plan.specs.Plan.{Plan, Refuses, Starts}
+use Rattle.wd_plan.specs.Plan.{Plan, Refuses, Starts, MayHold}
+use Rattle.wd_ports.specs.Told.{Stored}
 
--- what was found is what is told of the file
-abbrev pub ShowsRead : Option (List ℕ) → Found → Type 0
-ShowsRead told (found.Bytes bytes) = told ≡ Some bytes
-ShowsRead told found.Missing = told ≡ None
-ShowsRead told found.Fault = Unit {0}
-ShowsRead told found.NoMemory = Unit {0}
+-- what was found is what the file of this path may hold
+abbrev pub ShowsRead : Option Stored → List ℕ → Found → Type 0
+ShowsRead files path (found.Bytes bytes) = MayHold files path (Some bytes)
+ShowsRead files path found.Missing = MayHold files path None
+ShowsRead files path found.Fault = Unit {0}
+ShowsRead files path found.NoMemory = Unit {0}
 
 -- the bytes that were found are few enough to be read as a configuration
 abbrev pub IsShort : Found → Type 0
@@ -93,7 +94,7 @@ IsRefused why e = (e ≡ end.Refused why) ⊎ (e ≡ end.NoMemory)
 
 -- a refusal behind the command line
 abbrev pub IsLateRefusal : Refusal → Type 0
-IsLateRefusal refusal.CommandLine = ⊥
+IsLateRefusal (refusal.NoCommand notice) = ⊥
 IsLateRefusal _ = Unit {0}
 
 -- not refused for its command line
@@ -105,3 +106,8 @@ IsLateEnd end.NoMemory = Unit {0}
 abbrev pub IsLate : Result Ready PlanEnd → Type 0
 IsLate (Ok ready) = Unit {0}
 IsLate (Err e) = IsLateEnd e
+
+-- Words that ask for a notice come to it, or to want of memory, and others never to one.
+abbrev pub Heeds : Wish → Result Ready PlanEnd → Type 0
+Heeds (shows notice) result = IsErrAnd result (IsRefused (refusal.NoCommand notice))
+Heeds (runs asked) result = IsLate result

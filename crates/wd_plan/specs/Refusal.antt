@@ -3,6 +3,7 @@ use Rattle.std.specs.Prelude.{ℕ, List, [], ◌∷◌, ◌++◌, codes}
 use Rattle.std.specs.Fmt.{decimal}
 use Rattle.capnp_text.specs.declared.reader.TextKind.{TextKind}
 use Rattle.capnp_text.specs.declared.reader.TextKind.TheVariants as text
+use Rattle.wd_command.specs.Notice.{status_of as notice_status, text_of as notice_text}
 use Rattle.wd_config.specs.declared.faults.ConfigFault.{ConfigFault}
 use Rattle.wd_config.specs.declared.faults.ConfigKind.{ConfigKind}
 use Rattle.wd_config.specs.declared.faults.ConfigKind.TheVariants as kind
@@ -19,7 +20,7 @@ line_end = 10 ∷ []
 
 -- the exit status of a refusal
 abbrev pub status_of : Refusal → ℕ
-status_of refusal.CommandLine = 1
+status_of (refusal.NoCommand notice) = notice_status notice
 status_of (refusal.Config fault) = 2
 status_of (refusal.Link fault) = 2
 status_of (refusal.Script script) = 3
@@ -53,7 +54,8 @@ kind_text kind.NoScript = codes "NoScript"
 
 -- what is printed of a fault of the configuration: its kind, place and name
 unfoldable pub config_text : ConfigFault → List ℕ
-config_text fault = codes "error: config " ++ (kind_text fault.kind ++ codes " at ") ++ decimal fault.place ++ codes ": " ++ fault.name ++ line_end
+config_text fault = codes "error: config " ++ (kind_text fault.kind ++ codes " at ") ++ decimal fault.place
+    ++ codes ": " ++ fault.name ++ line_end
 
 -- what is printed of a name that no service has: where it is named, and the name
 unfoldable pub link_text : GraphFault → List ℕ
@@ -65,7 +67,7 @@ script_text script = codes "error: script " ++ (script.service ++ codes ": ") ++
 
 -- what is printed of a refusal
 abbrev pub text_of : Refusal → List ℕ
-text_of refusal.CommandLine = codes "error: command line" ++ line_end
+text_of (refusal.NoCommand notice) = notice_text notice
 text_of (refusal.Config fault) = config_text fault
 text_of (refusal.Link fault) = link_text fault
 text_of (refusal.Script script) = script_text script

@@ -1,5 +1,6 @@
 -- What a Worker's script comes to, and the scripts that answer every request with one text.
-use Rattle.std.specs.Prelude.{◌≡◌, ℕ, Bool, not, ◌&&◌, ◌==◌, nat_le, nat_lt, nat_eq, List, [], ◌∷◌, ◌++◌, ◌-◌, length, take, drop, Option, Some, None, codes, option_map, if◌then◌else◌}
+use Rattle.std.specs.Prelude.{◌≡◌, ℕ, Bool, not, ◌&&◌, ◌==◌, nat_le, nat_lt, nat_eq, List, [], ◌∷◌, ◌++◌, ◌-◌, length}
+use Rattle.std.specs.Prelude.{take, drop, Option, Some, None, codes, option_map, if◌then◌else◌}
 use Rattle.std.specs.Option.{option_and_then}
 use Rattle.std.specs.Cmp.Lexicographic.{pointwise}
 use Rattle.wd_base.specs.declared.config.Form.{Form}
@@ -13,7 +14,8 @@ use Rattle.wd_plan.specs.declared.script.Verdict.TheVariants.{Answers, Refused}
 
 -- up to the string literal's first quotation mark, and with it
 abbrev pub front : List ℕ
-front = codes "export default {" ++ 10 ∷ codes "  async fetch(request) {" ++ 10 ∷ codes "    return new Response(" ++ 34 ∷ []
+front = codes "export default {" ++ 10 ∷ codes "  async fetch(request) {" ++ 10 ∷ codes "    return new Response("
+    ++ 34 ∷ []
 
 -- from the string literal's other quotation mark on
 abbrev pub back : List ℕ
@@ -21,11 +23,13 @@ back = 34 ∷ codes ");" ++ 10 ∷ codes "  }" ++ 10 ∷ codes "};" ++ 10 ∷ []
 
 -- the bytes behind the front
 abbrev pub behind_front : List ℕ → Option (List ℕ)
-behind_front bytes = if pointwise nat_eq (take (length front) bytes) front then Some (drop (length front) bytes) else None
+behind_front bytes = if pointwise nat_eq (take (length front) bytes) front then Some (drop (length front) bytes) else
+    None
 
 -- the bytes before the back
 abbrev pub before_back : List ℕ → Option (List ℕ)
-before_back bytes = if pointwise nat_eq (drop (length bytes - length back) bytes) back then Some (take (length bytes - length back) bytes) else None
+before_back bytes = if pointwise nat_eq (drop (length bytes - length back) bytes) back then Some
+    (take (length bytes - length back) bytes) else None
 
 -- what stands between the marks of the script's string literal
 abbrev pub inner : List ℕ → Option (List ℕ)
@@ -39,7 +43,8 @@ is_plain b = nat_le 32 b && (nat_lt b 127 && (not (b == 34) && not (b == 92)))
 unfoldable pub behind : List ℕ → Option (List ℕ) → Option (List ℕ)
 behind bytes value = option_map (λ v. bytes ++ v) value
 
--- the value of what stands between the marks of a string literal (ECMA-262, section 12.9.4), where `\n` is the only escape
+-- the value of what stands between the marks of a string literal (ECMA-262, section 12.9.4),
+-- where `\n` is the only escape
 unfoldable pub literal_value : List ℕ → Option (List ℕ)
 literal_value [] = Some []
 literal_value (b ∷ []) = if is_plain b then Some (b ∷ []) else None

@@ -1,5 +1,6 @@
 -- The start of a world's scripts, and what is served of a configuration.
-use Rattle.std.specs.Prelude.{◌≡◌, ◌⊎◌, ℕ, Bool, true, false, ◌&&◌, List, [], ◌∷◌, ◌++◌, map, drop, Option, Some, None, is_some}
+use Rattle.std.specs.Prelude.{◌≡◌, ◌⊎◌, ℕ, Bool, true, false, ◌&&◌, List, [], ◌∷◌, ◌++◌, map, drop, Option, Some, None}
+use Rattle.std.specs.Prelude.{is_some, slice_get}
 use Rattle.std.specs.List.{list_all}
 use Rattle.wd_base.specs.declared.config.Config.{Config}
 use Rattle.wd_base.specs.declared.config.Form.{Form}
@@ -7,6 +8,8 @@ use Rattle.wd_base.specs.declared.config.Form.TheVariants as form
 use Rattle.wd_base.specs.declared.config.Service.{Service}
 use Rattle.wd_base.specs.declared.config.Socket.{Socket}
 use Rattle.wd_base.specs.declared.config.WorkerDef.{WorkerDef}
+use Rattle.wd_base.specs.declared.ids.ServiceNo.{ServiceNo}
+use Rattle.wd_graph.specs.Graph.{workers_in}
 use Rattle.wd_graph.specs.Names.{worker_in, worker_at, service_of}
 use Rattle.wd_machine.specs.First.{AreFirst, first_isolate, worker_defs}
 use Rattle.wd_plan.specs.declared.constant.Constant.{Constant}
@@ -44,10 +47,15 @@ abbrev pub Starts : Config → Started → Type 0
 Starts world (Isolates isolates) = AreFirst constant_means world isolates.items × FirstRefused world.services None
 Starts world (Refused script) = FirstRefused world.services (Some script)
 
--- These are the first isolates of the Workers among the first n services, and the first script of those behind them that is refused is
--- the first of all, and so where there is none.
+-- the names of the Workers among the targets of the service of this number
+abbrev pub targets_at : List Service → ServiceNo → List (List ℕ)
+targets_at services number = workers_in services (worker_at (slice_get services number.0))
+
+-- These are the first isolates of the Workers among the first n services, and the first script of those
+-- behind them that is refused is the first of all, and so where there is none.
 pub record Starting (services : List Service) (isolates : List Constant) (n : ℕ) : Type 0 where
-  pub made : map (first_isolate constant_means services) (worker_defs services) ≡ map Some isolates ++ map (first_isolate constant_means services) (worker_defs (drop n services))
+  pub made : map (first_isolate constant_means services) (worker_defs services) ≡ map Some isolates
+      ++ map (first_isolate constant_means services) (worker_defs (drop n services))
   pub left : (found : Option RefusedScript) → FirstRefused (drop n services) found → FirstRefused services found
 
 -- the same of one service more, or its script is the first that is refused

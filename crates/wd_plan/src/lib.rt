@@ -2,7 +2,6 @@
 //! reading and linking, and the start of its scripts.
 #![tactic(auto)]
 
-mod command;
 mod constant;
 mod folder;
 mod ready;
@@ -14,7 +13,6 @@ mod starts;
 mod tests;
 mod text;
 
-pub use command::{Verb, serves};
 pub use constant::Constant;
 pub use ready::{PlanEnd, Ready, prepare};
 pub use reason::{Reason, RefusedScript};

@@ -1,22 +1,25 @@
-ghost use Rattle.std.specs.Prelude.{◌≡◌, ◌<◌, ◌≤◌, ◌^◌, ◌↔◌, ◌&&◌, List, ℕ, Option, Some, None, Err, length, map, string_bytes, IsTrue, IfOk, IfErr, IfSome};
+ghost use Rattle.std.specs.Prelude.{◌≡◌, ◌<◌, ◌≤◌, ◌^◌, ◌↔◌, ◌&&◌, List, ℕ, Option, Some, None, Err, length, map};
+ghost use Rattle.std.specs.Prelude.{string_bytes, IsTrue, IfOk, IfErr, IfSome};
 ghost use Rattle.std.specs.List.{list_all};
 ghost use Rattle.wd_graph.specs.Links.{linked, first_unknown};
+ghost use Rattle.wd_command.specs.Command.{command, asked_of, wish};
 ghost use Rattle.wd_config.specs.Answer.{Differ};
 ghost use Rattle.wd_ports.specs.Faults.{ReadFile, RoseIn, part};
 ghost use Rattle.wd_ports.specs.Told.{file_at};
 ghost use Rattle.wd_plan.specs.declared.ready.PlanEnd.TheVariants as end;
 ghost use Rattle.wd_plan.specs.declared.refusal.Refusal.TheVariants as refusal;
-ghost use Rattle.wd_plan.specs.Command.{command, asked_of};
-ghost use Rattle.wd_plan.specs.Plan.{Plans, AtFile, EmbedsPath, IsReadFor, IsReadPath, AtScripts, AtKinds, AtNames, may_go, other_kind};
-ghost use Rattle.wd_plan.specs.Prepare.{ShowsRead, IsShort, IsReadFault, IsPrepared, end_of, plan_of, OnFault, IsAskedBy, IsLate, IsRefused};
+ghost use Rattle.wd_plan.specs.Plan.{Plans, AtConfig, AtFile, EmbedsPath, IsReadFor, IsReadPath, MayHold};
+ghost use Rattle.wd_plan.specs.Plan.{AtScripts, AtKinds, AtNames, may_go, other_kind};
+ghost use Rattle.wd_plan.specs.Prepare.{ShowsRead, IsShort, IsReadFault, IsPrepared, end_of, plan_of};
+ghost use Rattle.wd_plan.specs.Prepare.{OnFault, Heeds, IsAskedBy, IsLate, IsRefused};
 
-use crate::command::{CommandLine, Verb, command_of};
 use crate::constant::Constant;
 use crate::folder::folder_of;
 use crate::refusal::Refusal;
 use crate::starts::{Started, are_at_workers, are_plain, start_all};
 use std::alloc::Global;
 use wd_base::{Bytes, Config, NoMemory, Seq};
+use wd_command::{Asks, CommandLine, Verb, asks_of};
 use wd_config::{ConfigEnd, ConfigFault, ConfigKind, read};
 use wd_graph::{LinkEnd, World, link};
 use wd_ports::{Failed, Files};
@@ -47,7 +50,7 @@ enum Found {
 
 /// Reads a file.
 fn read_file<F: Files>(alloc: Global, files: &mut F, path: &str) -> Found
-    ensures found { IfSome (F.told files.old).files (λ s. ShowsRead (file_at s path.now) result) }
+    ensures found { ShowsRead (F.told files.old).files path.now result }
     ensures short { IsShort result }
     ensures fault { IsReadFault result → RoseIn ReadFile (F.faults files.old) (F.faults files.new) }
     ensures later { part ReadFile (F.faults files.old) ≤ part ReadFile (F.faults files.new) }
@@ -177,7 +180,7 @@ fn at_bytes<F: Files>(
     bytes: &[u8],
 ) -> Result<Ready, PlanEnd>
     requires { length bytes.now ≤ 536870912 }
-    ensures plan { IfSome (F.told files.old).files (λ s. IfSome (plan_of result) (AtFile s (asked_of asked.entry) (Some bytes.now))) }
+    ensures plan { IfSome (plan_of result) (AtFile (F.told files.old).files (asked_of asked.entry) (Some bytes.now)) }
     ensures ready { IfOk result IsPrepared }
     ensures late { IsLate result }
     ensures verb { IfOk result (λ ready. ready.verb ≡ asked.entry.verb) }
@@ -194,7 +197,7 @@ fn at_bytes<F: Files>(
 
 /// At the configuration's file.
 fn at_file<F: Files>(alloc: Global, files: &mut F, asked: CommandLine<'_>) -> Result<Ready, PlanEnd>
-    ensures plan { IfSome (F.told files.old).files (λ s. IfSome (plan_of result) (AtFile s (asked_of asked.entry) (file_at s asked.entry.config.now))) }
+    ensures plan { IfSome (plan_of result) (AtConfig (F.told files.old).files (asked_of asked.entry)) }
     ensures ready { IfOk result IsPrepared }
     ensures late { IsLate result }
     ensures verb { IfOk result (λ ready. ready.verb ≡ asked.entry.verb) }
@@ -217,8 +220,8 @@ fn at_file<F: Files>(alloc: Global, files: &mut F, asked: CommandLine<'_>) -> Re
 /// in the grammar, has no early fault, and has the form that is served.
 #[tactic(auto, unfolding(crate::specs::Plan::Plans))]
 pub fn prepare<F: Files>(alloc: Global, words: &[String], files: &mut F) -> Result<Ready, PlanEnd>
-    ensures plan { IfSome (F.told files.old).files (λ s. IfSome (plan_of result) (Plans (map string_bytes words.now) s)) }
-    ensures words { (result ≡ Err (end.Refused refusal.CommandLine)) ↔ (command (map string_bytes words.now) ≡ None) }
+    ensures plan { IfSome (plan_of result) (Plans (map string_bytes words.now) (F.told files.old).files) }
+    ensures words { Heeds (wish (map string_bytes words.now)) result }
     ensures ready { IfOk result IsPrepared }
     ensures verb { IfOk result (λ ready. IsAskedBy (command (map string_bytes words.now)) ready.verb) }
     ensures fault { OnFault result (λ path. RoseIn ReadFile (F.faults files.old) (F.faults files.new)) }
@@ -226,8 +229,9 @@ pub fn prepare<F: Files>(alloc: Global, words: &[String], files: &mut F) -> Resu
     ensures later { part ReadFile (F.faults files.old) ≤ part ReadFile (F.faults files.new) }
     ensures tells { F.told files.new ≡ F.told files.old }
 {
-    match command_of(words) {
-        None => Err(PlanEnd::Refused(Refusal::CommandLine)),
-        Some(asked) => at_file(alloc, files, asked),
+    match asks_of(alloc, words) {
+        Err(NoMemory) => Err(PlanEnd::NoMemory),
+        Ok(Asks::Show(notice)) => Err(PlanEnd::Refused(Refusal::NoCommand(notice))),
+        Ok(Asks::Run(asked)) => at_file(alloc, files, asked),
     }
 }

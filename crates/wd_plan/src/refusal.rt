@@ -6,14 +6,15 @@ use crate::text::framed;
 use capnp_text::TextKind;
 use std::alloc::Global;
 use wd_base::{Bytes, NoMemory};
+use wd_command::Notice;
 use wd_config::{ConfigFault, ConfigKind};
 use wd_graph::GraphFault;
 
 /// Why nothing is served or checked.
 #[derive(Debug, Drop)]
 pub enum Refusal {
-    /// The words are no command line.
-    CommandLine,
+    /// The words are no command, and this is shown for them.
+    NoCommand(Notice),
     /// There is no file of this path.
     MissingFile(Bytes),
     /// Reading the file of this path failed.
@@ -27,12 +28,12 @@ pub enum Refusal {
 }
 
 impl Refusal {
-    /// The exit status, 1 to 5.
+    /// The exit status: that of the notice, or 2 to 5.
     pub fn status(&self) -> u8
         ensures { result ≡ status_of self.now }
     {
         match self {
-            Refusal::CommandLine => 1,
+            Refusal::NoCommand(notice) => notice.status(),
             Refusal::Config(_) => 2,
             Refusal::Link(_) => 2,
             Refusal::Script(_) => 3,
@@ -41,12 +42,12 @@ impl Refusal {
         }
     }
 
-    /// What is printed: one line.
+    /// What is printed: the text of the notice, or one line.
     pub fn text(&self, alloc: Global) -> Result<Vec<u8>, NoMemory>
         ensures { IfOk result (λ text. text.items ≡ text_of self.now) }
     {
         match self {
-            Refusal::CommandLine => Ok(Vec::from_slice(alloc, b"error: command line\n")?),
+            Refusal::NoCommand(notice) => Ok(Vec::from_slice(alloc, notice.text())?),
             Refusal::Config(fault) => config_text(alloc, fault),
             Refusal::Link(fault) => link_text(alloc, fault),
             Refusal::Script(script) => script_text(alloc, script),

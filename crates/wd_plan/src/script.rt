@@ -1,5 +1,6 @@
 ghost use Rattle.std.specs.Prelude.{◌≡◌, ◌<◌, ◌≤◌, length, drop, option_map, IfOk, IfSome};
-ghost use Rattle.wd_plan.specs.Script.{Comes, answer_for, answer_of, answered, literal_value, value_from, inner, is_plain};
+ghost use Rattle.wd_plan.specs.Script.{Comes, answer_for, answer_of, answered, literal_value, value_from};
+ghost use Rattle.wd_plan.specs.Script.{inner, is_plain};
 
 use crate::reason::Reason;
 use js_check::check;

@@ -3,7 +3,8 @@ ghost use Rattle.std.specs.Option.{option_copied};
 ghost use Rattle.wd_graph.specs.Graph.{workers_in};
 ghost use Rattle.wd_graph.specs.Names.{worker_at, worker_in};
 ghost use Rattle.wd_plan.specs.Constant.{first_constant};
-ghost use Rattle.wd_plan.specs.Starts.{Starting, Starts, StartsNext, are_plain, are_at_workers, is_at_worker, is_plain_worker, refused};
+ghost use Rattle.wd_plan.specs.Starts.{Starting, Starts, StartsNext, are_plain, are_at_workers};
+ghost use Rattle.wd_plan.specs.Starts.{is_at_worker, is_plain_worker, refused, targets_at};
 
 use crate::constant::Constant;
 use crate::reason::{Reason, RefusedScript};
@@ -30,7 +31,7 @@ fn start(
     text: Bytes,
 ) -> Result<Constant, NoMemory>
     requires { no.0 < length world.now.services }
-    ensures { IfOk result (λ isolate. isolate ≡ first_constant worker.now (workers_in world.now.services (worker_at (slice_get world.now.services no.0))) text) }
+    ensures { IfOk result (λ isolate. isolate ≡ first_constant worker.now (targets_at world.now.services no) text) }
 {
     let workers = world.workers_of(alloc, no)?;
     let worker = worker.try_clone(alloc)?;

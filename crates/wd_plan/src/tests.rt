@@ -1,11 +1,12 @@
 //! Command lines, refusals' texts, and what is ready for a configuration. What is expected was
 //! worked out by hand.
 
-use crate::{PlanEnd, Reason, Refusal, RefusedScript, Verb, prepare, serves};
+use crate::{PlanEnd, Reason, Refusal, RefusedScript, prepare};
 use capnp_text::TextKind;
 use std::alloc::Global;
 use std::test::Fail;
 use wd_base::{NoMemory, Seq};
+use wd_command::{Notice, Verb};
 use wd_config::{ConfigFault, ConfigKind};
 use wd_graph::GraphFault;
 use wd_ports::MemFiles;
@@ -66,43 +67,30 @@ fn files_of(alloc: Global, first: &[u8], second: &[u8]) -> Result<MemFiles, NoMe
     Ok(files)
 }
 
-/// The words come to a plan or to a refusal, and not to want of memory.
-fn is_line(alloc: Global, words: &[String]) -> Result<bool, NoMemory> {
+/// The notice that the words come to, without files.
+fn notice_of(alloc: Global, words: &[&str]) -> Result<Option<Notice>, NoMemory> {
+    let words = words_of(alloc, words)?;
     let mut files = MemFiles::new(alloc);
-    match prepare(alloc, words, &mut files) {
-        Ok(_) => Ok(true),
-        Err(PlanEnd::Refused(Refusal::CommandLine)) => Ok(false),
-        Err(PlanEnd::Refused(_)) => Ok(true),
+    match prepare(alloc, words.as_slice(), &mut files) {
+        Err(PlanEnd::Refused(Refusal::NoCommand(notice))) => Ok(Some(notice)),
         Err(PlanEnd::NoMemory) => Err(NoMemory),
+        _ => Ok(None),
     }
 }
 
 #[test]
-fn command_lines(rt: HostRuntime) -> Result<(), Fail> {
-    // the words, whether they are a command line, and whether they ask to serve
-    let cases: [(&[&str], bool, bool); 16] = [
-        (&[], false, false),
-        (&["serve"], false, false),
-        (&["serve", "c"], true, true),
-        (&["serve", "c", "main"], true, true),
-        (&["serve", "c", "--threads", "1"], true, true),
-        (&["serve", "c", "main", "--threads", "1"], true, true),
-        (&["serve", "c", "--threads", "2"], false, false),
-        (&["serve", "c", "--threads"], false, false),
-        (&["serve", "-c"], false, false),
-        (&["serve", "-"], true, true),
-        (&["serve", "c", "-n"], false, false),
-        (&["check", "c"], true, false),
-        (&["check", "c", "main"], true, false),
-        (&["check", "c", "--threads", "1"], false, false),
-        (&["check", "c", "main", "more"], false, false),
-        (&["Serve", "c"], false, false),
+fn words_that_are_no_command(rt: HostRuntime) -> Result<(), Fail> {
+    let cases: [(&[&str], Option<Notice>); 7] = [
+        (&[], Some(Notice::Fault)),
+        (&["serve", "c", "--threads", "2"], Some(Notice::Fault)),
+        (&["--help"], Some(Notice::Help)),
+        (&["check", "--help"], Some(Notice::Help)),
+        (&["--version"], Some(Notice::Version)),
+        (&["serve", "c"], None),
+        (&["check", "c", "main"], None),
     ];
-    for (words, is_command, asks_to_serve) in cases {
-        let list = words_of(rt.alloc(), words)?;
-        let found = is_line(rt.alloc(), list.as_slice())?;
-        assert!(rt; found == is_command, "{words:?}");
-        assert!(rt; serves(list.as_slice()) == asks_to_serve, "{words:?}");
+    for (words, notice) in cases {
+        assert!(rt; notice_of(rt.alloc(), words)? == notice, "{words:?}");
     }
     Ok(())
 }
@@ -205,8 +193,13 @@ fn each_refusal_has_its_text(rt: HostRuntime) -> Result<(), Fail> {
         service: Seq::copy(alloc, b"main")?,
         reason: Reason::OtherForm,
     };
-    let cases: [(Refusal, u8, &[u8]); 5] = [
-        (Refusal::CommandLine, 1, b"error: command line\n"),
+    let cases: [(Refusal, u8, &[u8]); 6] = [
+        (
+            Refusal::NoCommand(Notice::Fault),
+            1,
+            b"error: command line\n",
+        ),
+        (Refusal::NoCommand(Notice::Version), 0, b"workerd 0.1.0\n"),
         (
             Refusal::MissingFile(Seq::copy(alloc, b"a/b")?),
             5,

@@ -1,30 +1,45 @@
 -- How a call ends, by its outcome.
-use Rattle.std.specs.Prelude.{◌≡◌, ◌⊎◌, ℕ, true, List, [], length, Option, Some, None, IfSome, refl, suc, ◌≤◌}
-use Rattle.std.proofs.Common.{sym, ap, subst, ◌∙◌, inl, inr, arith}
+use Rattle.std.specs.Prelude.{◌≡◌, ◌⊎◌, ℕ, ◌<◌, true, List, [], ◌∷◌, length, Option, Some, None, IfSome, All, refl, suc}
+use Rattle.std.specs.Prelude.{◌≤◌}
+use Rattle.std.proofs.Common.{sym, ap, subst, ◌∙◌, inl, inr, arith, Ok, Err}
+use Rattle.std.proofs.Math.Seq.{take-nil}
+use Rattle.wd_base.specs.declared.config.Addr.{Addr}
 use Rattle.wd_base.specs.declared.config.Config.{Config}
+use Rattle.wd_base.specs.declared.ids.LinkNo.{LinkNo}
+use Rattle.wd_base.specs.declared.ids.Seat.{Seat}
+use Rattle.wd_command.specs.declared.command.Verb.{Verb}
+use Rattle.wd_command.specs.declared.command.Verb.TheVariants as verb
+use Rattle.wd_command.specs.declared.notice.Notice.{Notice}
+use Rattle.wd_command.specs.Command.{Wish, runs, shows, wish}
+use Rattle.wd_command.specs.Notice.{status_of as notice_status, text_of as notice_text}
 use Rattle.wd_machine.specs.declared.journal.Entry.{Entry}
 use Rattle.wd_machine.specs.declared.journal.Head.TheVariants.{Whole}
 use Rattle.wd_machine.specs.declared.journal.Journal.{Journal}
+use Rattle.wd_machine.specs.Meaning.{Meaning}
 use Rattle.wd_machine.specs.Runs.{legal}
-use Rattle.wd_plan.specs.declared.command.Verb.{Verb}
-use Rattle.wd_plan.specs.declared.command.Verb.TheVariants as verb
 use Rattle.wd_plan.specs.declared.ready.PlanEnd.{PlanEnd}
 use Rattle.wd_plan.specs.declared.ready.PlanEnd.TheVariants as end
+use Rattle.wd_plan.specs.declared.ready.Ready.{Ready}
 use Rattle.wd_plan.specs.declared.refusal.Refusal.{Refusal}
 use Rattle.wd_plan.specs.declared.refusal.Refusal.TheVariants as refusal
-use Rattle.wd_plan.specs.Command.{command}
 use Rattle.wd_plan.specs.Constant.{constant_means}
 use Rattle.wd_plan.specs.Plan.{Plan, Refuses, Starts, Plans, IsReadPath}
-use Rattle.wd_plan.specs.Prepare.{OnEndFault, OnRefusedFault, plan_of_end, plan_of_refusal}
+use Rattle.wd_plan.specs.Prepare.{Heeds, OnEndFault, OnRefusedFault, plan_of_end, plan_of_refusal}
 use Rattle.wd_plan.proofs.PlanLaws.{no_command, plans_one}
+use Rattle.wd_plan.proofs.SomePlan.{some_plan}
+use Rattle.wd_ports.specs.declared.told.Faults.{Faults}
 use Rattle.wd_ports.specs.Faults.{Rose}
-use Rattle.wd_ports.specs.Told.{Stored}
+use Rattle.wd_ports.specs.Sink.{with_bytes}
+use Rattle.wd_ports.specs.Told.{Told, Stored}
 use Rattle.wd_top.specs.declared.outcome.Outcome.{Outcome}
 use Rattle.wd_top.specs.declared.outcome.Outcome.TheVariants as outcome
 use Rattle.wd_top.specs.Board.{IsOver}
-use Rattle.wd_top.specs.Ended.{Call, Asks, IsCaused, RefusedFor, IsSessionEnd, IsEarly, HasPort, NoPortMade, Caused, IsEmpty, Ran, Comes, status_for, IsStatus}
+use Rattle.wd_top.specs.Calls.{AtPorts, IsShown, ListenFailed, OnNotice}
+use Rattle.wd_top.specs.Ended.{Call, Asks, IsCaused, RefusedFor, IsSessionEnd, IsEarly, HasPort, NoPortMade, Caused}
+use Rattle.wd_top.specs.Ended.{IsEmpty, Ran, Comes, status_for, IsStatus}
 use Rattle.wd_top.specs.Outcome.{status_of, Reports}
-use Rattle.wd_top.specs.Talk.{EachOfSeat, IsOfSeat}
+use Rattle.wd_top.specs.Talk.{NumberedFrom, IsNumbered, EachOfSeat, IsOfSeat}
+use Rattle.wd_top.proofs.BoardSteps.{idle_first}
 
 -- a world of nothing
 abbrev pub no_world : Config
@@ -35,167 +50,301 @@ abbrev no_journal : Journal
 no_journal = record { head = Whole; entries = [] }
 
 -- no entry is of another seat where there is none
-pub no_entries : (entries : List Entry) → entries ≡ [] → IsOfSeat 0 entries
+pub no_entries : (seat : Seat) (entries : List Entry) → entries ≡ [] → IsOfSeat seat.0 entries
 unfolding IsOfSeat
-no_entries entries e = subst (λ es. EachOfSeat 0 es) (sym e) tt
+no_entries seat entries e = subst (λ es. EachOfSeat seat.0 es) (sym e) tt
 
--- no request of no entries is left
-pub nothing_over : (world : Config) (entries : List Entry) → entries ≡ [] → IsOver constant_means world entries
-nothing_over world entries e = subst (λ es. IsOver constant_means world es) (sym e) tt
+-- no request is numbered where there is none
+pub no_numbers : (entries : List Entry) → entries ≡ [] → IsNumbered entries
+unfolding IsNumbered
+no_numbers entries e = subst (λ es. NumberedFrom 0 es) (sym e) tt
 
-session_caused : (call : Call) (world : Config) (ports : ℕ) (o : Outcome) → IsSessionEnd o → Asks call (Starts verb.Serve world) → (NoPortMade o → (ports ≡ 0) × call.maker_failed)
-    → Caused call world o
-session_caused call world ports outcome.Done e plan none = plan
-session_caused call world ports (outcome.Checked services sockets) e plan none = absurd e
-session_caused call world ports (outcome.Refused why) e plan none = absurd e
-session_caused call world ports (outcome.NoPort seat) e plan none = (e, plan, (none tt).1)
-session_caused call world ports (outcome.NoListen address) e plan none = plan
-session_caused call world ports outcome.NoMemory e plan none = tt
+-- after no entries nothing is left to do
+pub nothing_over : {I : Type 0} (m : Meaning I) (world : Config) (entries : List Entry) → entries ≡ []
+    → IsOver m world entries
+nothing_over m world entries e = subst (λ es. IsOver m world es) (sym e) (record {
+  ended = tt;
+  running = refl;
+  due = refl;
+  idle = idle_first m world.services world.services;
+})
 
-session_early : (empty served : Type 0) (o : Outcome) → IsSessionEnd o → served → IsEarly o → empty ⊎ ((o ≡ outcome.NoMemory) × served)
-session_early empty served outcome.Done e plan h = absurd h
-session_early empty served (outcome.Checked services sockets) e plan h = absurd e
-session_early empty served (outcome.Refused why) e plan h = absurd e
-session_early empty served (outcome.NoPort seat) e plan h = absurd h
-session_early empty served (outcome.NoListen address) e plan h = absurd h
-session_early empty served outcome.NoMemory e plan h = inr (refl, plan)
+-- the port that is handed out could not listen
+pub listening_failed : {P : Type 0} (seat : Seat) (told : P → Told) (gone : P → LinkNo → Type 0) (faults : P → Faults)
+    (ports : List P) (entries : List Entry) (world : Config) (o : Outcome) (address : Addr)
+    → o ≡ outcome.NoListen address → length ports ≡ 1 → AtPorts seat told gone faults ports entries o world
+    → ListenFailed faults ports
+listening_failed seat told gone faults [] entries world o address is one at = absurd (omega (arith, one))
+listening_failed seat told gone faults (p ∷ ports) entries world o address is one at =
+    let here : AtPorts seat told gone faults (p ∷ ports) entries (outcome.NoListen address) world =
+    subst (λ x. AtPorts seat told gone faults (p ∷ ports) entries x world) is at in
+    inl ((here 0 p (omega arith)).outcome.0)
 
-early_no_port : (o : Outcome) → IsEarly o → HasPort o → ⊥
-early_no_port outcome.Done e h = e
-early_no_port (outcome.Checked services sockets) e h = h
-early_no_port (outcome.Refused why) e h = h
-early_no_port (outcome.NoPort seat) e h = h
-early_no_port (outcome.NoListen address) e h = e
-early_no_port outcome.NoMemory e h = h
+session_caused : (seat : Seat) (call : Call) (world : Config) (o : Outcome) → IsSessionEnd seat o
+    → Asks call (Starts verb.Serve world) → (NoPortMade o → call.maker_failed)
+    → ((address : Addr) → o ≡ outcome.NoListen address → call.listen_failed) → Caused call world o
+session_caused seat call world outcome.Done e plan made listens = plan
+session_caused seat call world (outcome.Checked services sockets) e plan made listens = absurd e
+session_caused seat call world (outcome.Refused why) e plan made listens = absurd e
+session_caused seat call world (outcome.NoPort other) e plan made listens = (plan, made tt)
+session_caused seat call world (outcome.NoListen address) e plan made listens = (plan, listens address refl)
+session_caused seat call world outcome.NoMemory e plan made listens = tt
 
--- the cause of an outcome without a session has no maker in it
-early_lift : (words : List (List ℕ)) (files : Option Stored) (rr mr mr' : Type 0) (world : Config) (o : Outcome) → IsEarly o → Caused (record { words = words; files = files; read_failed = rr; maker_failed = mr }) world o → Caused (record { words = words; files = files; read_failed = rr; maker_failed = mr' }) world o
-early_lift words files rr mr mr' world outcome.Done e caused = absurd e
-early_lift words files rr mr mr' world (outcome.Checked services sockets) e caused = caused
-early_lift words files rr mr mr' world (outcome.Refused refusal.CommandLine) e caused = caused
-early_lift words files rr mr mr' world (outcome.Refused (refusal.MissingFile path)) e caused = caused
-early_lift words files rr mr mr' world (outcome.Refused (refusal.FileFault path)) e caused = caused
-early_lift words files rr mr mr' world (outcome.Refused (refusal.Config fault)) e caused = caused
-early_lift words files rr mr mr' world (outcome.Refused (refusal.Link fault)) e caused = caused
-early_lift words files rr mr mr' world (outcome.Refused (refusal.Script script)) e caused = caused
-early_lift words files rr mr mr' world (outcome.NoPort seat) e caused = absurd e
-early_lift words files rr mr mr' world (outcome.NoListen address) e caused = absurd e
-early_lift words files rr mr mr' world outcome.NoMemory e caused = tt
+session_early : (seat : Seat) (empty served : Type 0) (o : Outcome) → IsSessionEnd seat o → served → IsEarly o
+    → empty ⊎ ((o ≡ outcome.NoMemory) × served)
+session_early seat empty served outcome.Done e plan h = absurd h
+session_early seat empty served (outcome.Checked services sockets) e plan h = absurd e
+session_early seat empty served (outcome.Refused why) e plan h = absurd e
+session_early seat empty served (outcome.NoPort other) e plan h = absurd h
+session_early seat empty served (outcome.NoListen address) e plan h = absurd h
+session_early seat empty served outcome.NoMemory e plan h = inr (refl, plan)
 
--- why nothing was served or checked
-pub refused_caused : (words : List (List ℕ)) (files : Option Stored) (rr mr : Type 0) (why : Refusal) → IfSome files (λ s. IfSome (plan_of_refusal why) (Plans words s)) → OnRefusedFault why (λ path. rr) → OnRefusedFault why (IsReadPath words files) → (why ≡ refusal.CommandLine → command words ≡ None)
-    → IsCaused (record { words = words; files = files; read_failed = rr; maker_failed = mr }) (outcome.Refused why)
-refused_caused words files rr mr refusal.CommandLine plan failed path none = (no_world, none refl)
-refused_caused words files rr mr (refusal.MissingFile name) plan failed path none = (no_world, plan)
-refused_caused words files rr mr (refusal.FileFault name) plan failed path none = (no_world, (failed, path))
-refused_caused words files rr mr (refusal.Config fault) plan failed path none = (no_world, plan)
-refused_caused words files rr mr (refusal.Link fault) plan failed path none = (no_world, plan)
-refused_caused words files rr mr (refusal.Script script) plan failed path none = (no_world, plan)
+early_no_port : (world : Config) (o : Outcome) → IsEarly o → HasPort world o → ⊥
+early_no_port world outcome.Done e h = e
+early_no_port world (outcome.Checked services sockets) e h = h
+early_no_port world (outcome.Refused why) e h = h
+early_no_port world (outcome.NoPort seat) e h = h
+early_no_port world (outcome.NoListen address) e h = e
+early_no_port world outcome.NoMemory e h = h
 
-pub end_caused : (words : List (List ℕ)) (files : Option Stored) (rr mr : Type 0) (e : PlanEnd) (why : Refusal) → e ≡ end.Refused why → IfSome files (λ s. IfSome (plan_of_end e) (Plans words s)) → OnEndFault e (λ path. rr) → OnEndFault e (IsReadPath words files) → (e ≡ end.Refused refusal.CommandLine → command words ≡ None)
-    → IsCaused (record { words = words; files = files; read_failed = rr; maker_failed = mr }) (outcome.Refused why)
-end_caused words files rr mr e why is plan failed path none =
-    refused_caused words files rr mr why (subst (λ x. IfSome files (λ s. IfSome (plan_of_end x) (Plans words s))) is plan) (subst (λ x. OnEndFault x (λ p. rr)) is failed) (subst (λ x. OnEndFault x (IsReadPath words files)) is path) (λ line. none (is ∙ ap (λ w. end.Refused w) line))
-
--- what was checked
-pub checked_caused : (words : List (List ℕ)) (files : Option Stored) (rr mr : Type 0) (v : Verb) (world : Config) (o : Outcome) → IfSome files (λ s. Plans words s (Starts v world)) → v ≡ verb.Check → o ≡ outcome.Checked (length world.services) (length world.sockets)
-    → IsCaused (record { words = words; files = files; read_failed = rr; maker_failed = mr }) o
-checked_caused words files rr mr v world o plan check is =
-    let call : Call = record { words = words; files = files; read_failed = rr; maker_failed = mr } in
-    (world, subst (Caused call world) (sym is) (subst (λ x. IfSome files (λ s. Plans words s (Starts x world))) check plan, refl, refl))
-
--- an outcome without a session
-pub early_comes : (words : List (List ℕ)) (files : Option Stored) (rr mr mr' : Type 0) (o : Outcome) (journal : Journal) (ports : ℕ) (at_ports : Config → Type 0) → IsEarly o → IsCaused (record { words = words; files = files; read_failed = rr; maker_failed = mr }) o → journal ≡ record { head = Whole; entries = [] } → ports ≡ 0 → ((world : Config) → at_ports world)
-    → Comes (record { words = words; files = files; read_failed = rr; maker_failed = mr' }) o journal ports at_ports
-early_comes words files rr mr mr' o journal ports at_ports early (world, caused) empty no_ports at =
-    let entries : journal.entries ≡ [] = ap (λ j. j.entries) empty in
-    record {
-      world = world;
-      caused = early_lift words files rr mr mr' world o early caused;
-      early = λ e. inl (entries, no_ports);
-      whole = ap (λ j. j.head) empty;
-      run = subst (λ j. legal constant_means world j ≡ true) (sym empty) refl;
-      seat = no_entries journal.entries entries;
-      unused = λ h. entries;
-      over = λ is. nothing_over world journal.entries entries;
-      few = omega (arith, no_ports);
-      one = λ h some. absurd (early_no_port o early h);
-      idle = λ none. (no_ports, entries);
-      at = at world;
-    }
-
--- the outcome of a session
-pub session_comes : (call : Call) (world : Config) (o : Outcome) (journal : Journal) (ports : ℕ) (at_ports : Config → Type 0) → Asks call (Starts verb.Serve world) → Ran world call.maker_failed o journal ports (at_ports world)
-    → Comes call o journal ports at_ports
-session_comes call world o journal ports at_ports plan ran = record {
-  world = world;
-  caused = session_caused call world ports o ran.end plan ran.none;
-  early = session_early (IsEmpty journal ports) (Asks call (Starts verb.Serve world)) o ran.end plan;
-  whole = ran.whole;
-  run = ran.run;
-  seat = ran.seat;
-  unused = ran.unused;
-  over = ran.over;
-  few = ran.few;
-  one = ran.one;
-  idle = ran.idle;
-  at = ran.at;
+-- a call, by what it is given and what failed in it
+abbrev call_by : List (List ℕ) → Option Stored → Type 0 → Type 0 → Type 0 → Call
+call_by words files rr mr lf = record {
+  words = words;
+  files = files;
+  read_failed = rr;
+  maker_failed = mr;
+  listen_failed = lf;
 }
 
+-- the cause of an outcome without a session has no maker and no port in it
+early_lift : (words : List (List ℕ)) (files : Option Stored) (rr mr mr' lf lf' : Type 0) (world : Config)
+    (o : Outcome) → IsEarly o → Caused (call_by words files rr mr lf) world o
+    → Caused (call_by words files rr mr' lf') world o
+early_lift words files rr mr mr' lf lf' world outcome.Done e caused = absurd e
+early_lift words files rr mr mr' lf lf' world (outcome.Checked services sockets) e caused = caused
+early_lift words files rr mr mr' lf lf' world (outcome.Refused (refusal.NoCommand notice)) e caused = caused
+early_lift words files rr mr mr' lf lf' world (outcome.Refused (refusal.MissingFile path)) e caused = caused
+early_lift words files rr mr mr' lf lf' world (outcome.Refused (refusal.FileFault path)) e caused = caused
+early_lift words files rr mr mr' lf lf' world (outcome.Refused (refusal.Config fault)) e caused = caused
+early_lift words files rr mr mr' lf lf' world (outcome.Refused (refusal.Link fault)) e caused = caused
+early_lift words files rr mr mr' lf lf' world (outcome.Refused (refusal.Script script)) e caused = caused
+early_lift words files rr mr mr' lf lf' world (outcome.NoPort seat) e caused = absurd e
+early_lift words files rr mr mr' lf lf' world (outcome.NoListen address) e caused = absurd e
+early_lift words files rr mr mr' lf lf' world outcome.NoMemory e caused = tt
+
+-- why nothing was served or checked
+refused_caused : (words : List (List ℕ)) (files : Option Stored) (rr mr lf : Type 0) (why : Refusal)
+    → IfSome (plan_of_refusal why) (Plans words files) → OnRefusedFault why (λ path. rr)
+    → OnRefusedFault why (IsReadPath words files)
+    → ((notice : Notice) → why ≡ refusal.NoCommand notice → wish words ≡ shows notice)
+    → IsCaused (call_by words files rr mr lf) (outcome.Refused why)
+refused_caused words files rr mr lf (refusal.NoCommand notice) plan failed path asks = (no_world, asks notice refl)
+refused_caused words files rr mr lf (refusal.MissingFile name) plan failed path asks = (no_world, plan)
+refused_caused words files rr mr lf (refusal.FileFault name) plan failed path asks = (no_world, (failed, path))
+refused_caused words files rr mr lf (refusal.Config fault) plan failed path asks = (no_world, plan)
+refused_caused words files rr mr lf (refusal.Link fault) plan failed path asks = (no_world, plan)
+refused_caused words files rr mr lf (refusal.Script script) plan failed path asks = (no_world, plan)
+
+pub end_caused : (words : List (List ℕ)) (files : Option Stored) (rr mr lf : Type 0) (e : PlanEnd) (why : Refusal)
+    → e ≡ end.Refused why → IfSome (plan_of_end e) (Plans words files) → OnEndFault e (λ path. rr)
+    → OnEndFault e (IsReadPath words files)
+    → ((notice : Notice) → e ≡ end.Refused (refusal.NoCommand notice) → wish words ≡ shows notice)
+    → IsCaused (call_by words files rr mr lf) (outcome.Refused why)
+end_caused words files rr mr lf e why is plan failed path asks =
+    refused_caused words files rr mr lf why
+    (subst (λ x. IfSome (plan_of_end x) (Plans words files)) is plan)
+    (subst (λ x. OnEndFault x (λ p. rr)) is failed) (subst (λ x. OnEndFault x (IsReadPath words files)) is path)
+    (λ notice shown. asks notice (is ∙ ap (λ w. end.Refused w) shown))
+
+-- what was checked
+pub checked_caused : (words : List (List ℕ)) (files : Option Stored) (rr mr lf : Type 0) (v : Verb) (world : Config)
+    (o : Outcome) → Plans words files (Starts v world) → v ≡ verb.Check
+    → o ≡ outcome.Checked (length world.services) (length world.sockets)
+    → IsCaused (call_by words files rr mr lf) o
+checked_caused words files rr mr lf v world o plan check is = (
+  world,
+  subst (Caused (call_by words files rr mr lf) world) (sym is)
+      (subst (λ x. Plans words files (Starts x world)) check plan, refl, refl),
+)
+
+-- an outcome without a session leaves nothing
+pub early_ran : (seat : Seat) (world : Config) (o : Outcome) (journal : Journal) (ports : ℕ) (at_ports : Type 0)
+    → IsEarly o → journal ≡ record { head = Whole; entries = [] } → ports ≡ 0 → at_ports
+    → Ran seat world o journal ports at_ports
+early_ran seat world o journal ports at_ports early empty no_ports at =
+    let entries : journal.entries ≡ [] = ap (λ j. j.entries) empty in
+    record {
+      whole = ap (λ j. j.head) empty;
+      run = subst (λ j. legal constant_means world j ≡ true) (sym empty) refl;
+      numbered = no_numbers journal.entries entries;
+      of_seat = no_entries seat journal.entries entries;
+      over = λ is. nothing_over constant_means world journal.entries entries;
+      few = omega (arith, no_ports);
+      one = λ h. absurd (early_no_port world o early h);
+      idle = λ none. no_ports;
+      unheard = λ none. entries;
+      unused = λ h. entries;
+      at = at;
+    }
+
+pub early_comes : (seat : Seat) (words : List (List ℕ)) (files : Option Stored) (rr mr mr' lf lf' : Type 0)
+    (o : Outcome) (journal : Journal) (ports : ℕ) (at_ports : Config → Type 0) → IsEarly o
+    → IsCaused (call_by words files rr mr lf) o → journal ≡ record { head = Whole; entries = [] } → ports ≡ 0
+    → ((world : Config) → at_ports world)
+    → Comes seat (call_by words files rr mr' lf') o journal ports at_ports
+early_comes seat words files rr mr mr' lf lf' o journal ports at_ports early (world, caused) empty no_ports at = record {
+  world = world;
+  caused = early_lift words files rr mr mr' lf lf' world o early caused;
+  early = λ e. inl (ap (λ j. j.entries) empty, no_ports);
+  ran = early_ran seat world o journal ports (at_ports world) early empty no_ports (at world);
+}
+
+-- the outcome of a session
+pub session_comes : (seat : Seat) (call : Call) (world : Config) (o : Outcome) (journal : Journal) (ports : ℕ)
+    (at_ports : Config → Type 0) → IsSessionEnd seat o → Asks call (Starts verb.Serve world)
+    → (NoPortMade o → call.maker_failed)
+    → ((address : Addr) → o ≡ outcome.NoListen address → call.listen_failed)
+    → Ran seat world o journal ports (at_ports world) → Comes seat call o journal ports at_ports
+session_comes seat call world o journal ports at_ports e plan made listens ran = record {
+  world = world;
+  caused = session_caused seat call world o e plan made listens;
+  early = session_early seat (IsEmpty journal ports) (Asks call (Starts verb.Serve world)) o e plan;
+  ran = ran;
+}
+
+-- where listening failed, there is one port
+pub one_listening : (world : Config) (o : Outcome) (address : Addr) (ports : ℕ) → o ≡ outcome.NoListen address
+    → (HasPort world o → ports ≡ 1) → ports ≡ 1
+one_listening world o address ports is one = subst (λ x. (HasPort world x → ports ≡ 1) → ports ≡ 1) (sym is) (λ f. f tt)
+    one
+
 -- the statuses that are left where a read failed, the sink failed, or memory was wanting
-abbrev Else : Type 0 → Type 0 → ℕ → Type 0
-Else read_rose sink_rose status = ((status ≡ 5) × read_rose) ⊎ (((status ≡ 4) × sink_rose) ⊎ (status ≡ 9))
+abbrev Else : Call → Type 0 → ℕ → Type 0
+Else call sink_rose status = ((status ≡ 5) × call.read_failed) ⊎ (((status ≡ 4) × sink_rose) ⊎ (status ≡ 9))
 
--- a call over told files
-abbrev told_call : List (List ℕ) → Stored → Type 0 → Type 0 → Call
-told_call words s rr mr = record { words = words; files = Some s; read_failed = rr; maker_failed = mr }
+by_plan : (call : Call) (s : Stored) (sr : Type 0) (plan asked : Plan) (status : ℕ) → call.files ≡ Some s
+    → Asks call asked → Asks call plan → status_for call plan status → status_for call asked status
+    ⊎ Else call sr status
+by_plan call s sr plan asked status told asks is h =
+    let told_plan : Plans call.words (Some s) plan = subst (λ f. Plans call.words f plan) told is in
+    let told_asked : Plans call.words (Some s) asked = subst (λ f. Plans call.words f asked) told asks in
+    inl (subst (λ p. status_for call p status) (plans_one call.words s plan asked told_plan told_asked) h)
 
-by_plan : (words : List (List ℕ)) (s : Stored) (rr sr : Type 0) (plan asked : Plan) (status : ℕ) → Plans words s asked → Plans words s plan → status_for plan status → status_for asked status ⊎ Else rr sr status
-by_plan words s rr sr plan asked status asks is h = inl (subst (λ p. status_for p status) (plans_one words s plan asked is asks) h)
+by_refusal : (call : Call) (s : Stored) (sr : Type 0) (why : Refusal) (asked : Plan) (status : ℕ)
+    → call.files ≡ Some s → RefusedFor call why → Asks call asked → status ≡ status_of (outcome.Refused why)
+    → status_for call asked status ⊎ Else call sr status
+by_refusal call s sr (refusal.NoCommand notice) asked status told caused asks e =
+    by_plan call s sr (Refuses (refusal.NoCommand notice)) asked status told asks
+    (no_command call.words call.files notice caused) e
+by_refusal call s sr (refusal.MissingFile path) asked status told caused asks e =
+    by_plan call s sr (Refuses (refusal.MissingFile path)) asked status told asks caused e
+by_refusal call s sr (refusal.FileFault path) asked status told caused asks e = inr (inl (e, caused.0))
+by_refusal call s sr (refusal.Config fault) asked status told caused asks e =
+    by_plan call s sr (Refuses (refusal.Config fault)) asked status told asks caused e
+by_refusal call s sr (refusal.Link fault) asked status told caused asks e =
+    by_plan call s sr (Refuses (refusal.Link fault)) asked status told asks caused e
+by_refusal call s sr (refusal.Script script) asked status told caused asks e =
+    by_plan call s sr (Refuses (refusal.Script script)) asked status told asks caused e
 
-by_refusal : (words : List (List ℕ)) (s : Stored) (rr mr sr : Type 0) (why : Refusal) (asked : Plan) (status : ℕ) → RefusedFor (told_call words s rr mr) why → Plans words s asked → status ≡ status_of (outcome.Refused why) → status_for asked status ⊎ Else rr sr status
-by_refusal words s rr mr sr refusal.CommandLine asked status caused asks e = by_plan words s rr sr (Refuses refusal.CommandLine) asked status asks (no_command words s caused) e
-by_refusal words s rr mr sr (refusal.MissingFile path) asked status caused asks e = by_plan words s rr sr (Refuses (refusal.MissingFile path)) asked status asks caused e
-by_refusal words s rr mr sr (refusal.FileFault path) asked status caused asks e = inr (inl (e, caused.0))
-by_refusal words s rr mr sr (refusal.Config fault) asked status caused asks e = by_plan words s rr sr (Refuses (refusal.Config fault)) asked status asks caused e
-by_refusal words s rr mr sr (refusal.Link fault) asked status caused asks e = by_plan words s rr sr (Refuses (refusal.Link fault)) asked status asks caused e
-by_refusal words s rr mr sr (refusal.Script script) asked status caused asks e = by_plan words s rr sr (Refuses (refusal.Script script)) asked status asks caused e
+by_outcome : (call : Call) (s : Stored) (sr : Type 0) (world : Config) (o : Outcome) (asked : Plan) (status : ℕ)
+    → call.files ≡ Some s → Caused call world o → Asks call asked → status ≡ status_of o
+    → status_for call asked status ⊎ Else call sr status
+by_outcome call s sr world outcome.Done asked status told caused asks e =
+    by_plan call s sr (Starts verb.Serve world) asked status told asks caused (inl e)
+by_outcome call s sr world (outcome.Checked services sockets) asked status told caused asks e =
+    by_plan call s sr (Starts verb.Check world) asked status told asks caused.0 e
+by_outcome call s sr world (outcome.Refused why) asked status told caused asks e =
+    by_refusal call s sr why asked status told caused asks e
+by_outcome call s sr world (outcome.NoPort seat) asked status told caused asks e =
+    by_plan call s sr (Starts verb.Serve world) asked status told asks caused.0 (inr (e, inl caused.1))
+by_outcome call s sr world (outcome.NoListen address) asked status told caused asks e =
+    by_plan call s sr (Starts verb.Serve world) asked status told asks caused.0 (inr (e, inr caused.1))
+by_outcome call s sr world outcome.NoMemory asked status told caused asks e = inr (inr (inr e))
 
-by_outcome : (words : List (List ℕ)) (s : Stored) (rr mr sr : Type 0) (world : Config) (o : Outcome) (asked : Plan) (status : ℕ) → Caused (told_call words s rr mr) world o → Plans words s asked → status ≡ status_of o → status_for asked status ⊎ Else rr sr status
-by_outcome words s rr mr sr world outcome.Done asked status caused asks e = by_plan words s rr sr (Starts verb.Serve world) asked status asks caused (inl e)
-by_outcome words s rr mr sr world (outcome.Checked services sockets) asked status caused asks e = by_plan words s rr sr (Starts verb.Check world) asked status asks caused.0 e
-by_outcome words s rr mr sr world (outcome.Refused why) asked status caused asks e = by_refusal words s rr mr sr why asked status caused asks e
-by_outcome words s rr mr sr world (outcome.NoPort seat) asked status caused asks e = by_plan words s rr sr (Starts verb.Serve world) asked status asks caused.1 (inr e)
-by_outcome words s rr mr sr world (outcome.NoListen address) asked status caused asks e = by_plan words s rr sr (Starts verb.Serve world) asked status asks caused (inr e)
-by_outcome words s rr mr sr world outcome.NoMemory asked status caused asks e = inr (inr (inr e))
-
-by_report : (words : List (List ℕ)) (s : Stored) (rr mr : Type 0) (held held' : Option (List ℕ)) (count count' status : ℕ) (o : Outcome) (world : Config) (asked : Plan) → Caused (told_call words s rr mr) world o → Plans words s asked → Reports o status held held' count count' → status_for asked status ⊎ Else rr (Rose count count') status
-by_report words s rr mr held held' count count' status o world asked caused asks reports =
-    elim reports.which as (λ w. status_for asked status ⊎ Else rr (Rose count count') status) [
-      | inl h ↦ by_outcome words s rr mr (Rose count count') world o asked status caused asks h.0
+by_report : (call : Call) (s : Stored) (held held' : Option (List ℕ)) (count count' status : ℕ) (o : Outcome)
+    (world : Config) (asked : Plan) → call.files ≡ Some s → Caused call world o → Asks call asked
+    → Reports o status held held' count count' → status_for call asked status ⊎ Else call (Rose count count') status
+by_report call s held held' count count' status o world asked told caused asks reports =
+    elim reports.which as (λ w. status_for call asked status ⊎ Else call (Rose count count') status) [
+      | inl h ↦ by_outcome call s (Rose count count') world o asked status told caused asks h.0
       | inr (inl h) ↦ inr (inr (inl h))
       | inr (inr h) ↦ inr (inr (inr h))
     ]
 
 -- the status is the one that the words and the files ask for
-pub status_is : (words : List (List ℕ)) (files : Option Stored) (rr mr : Type 0) (held held' : Option (List ℕ)) (count count' status : ℕ) (o : Outcome) (journal : Journal) (ports : ℕ) (at_ports : Config → Type 0)
-    → Comes (record { words = words; files = files; read_failed = rr; maker_failed = mr }) o journal ports at_ports → Reports o status held held' count count' → IfSome files (λ s. IsStatus words s rr (Rose count count') status)
-status_is words None rr mr held held' count count' status o journal ports at_ports comes reports = tt
-status_is words (Some s) rr mr held held' count count' status o journal ports at_ports comes reports = λ asked asks. by_report words s rr mr held held' count count' status o comes.world asked comes.caused asks reports
+pub status_is : (call : Call) (held held' : Option (List ℕ)) (count count' status : ℕ) (o : Outcome)
+    → IsCaused call o → Reports o status held held' count count'
+    → IfSome call.files (λ _. IsStatus call (Rose count count') status)
+status_is call held held' count count' status o caused reports =
+    elim call.files as (λ f. call.files ≡ f → IfSome f (λ _. IsStatus call (Rose count count') status)) [
+      | None ↦ λ told. tt
+      | Some s ↦ λ told.
+          let plan = some_plan call.words s in
+          let asks : Asks call plan.0 = subst (λ f. Plans call.words f plan.0) (sym told) plan.1 in
+          (plan.0, asks, by_report call s held held' count count' status o caused.0 plan.0 told caused.1 asks reports)
+    ] refl
 
--- the status of a call without a session
-pub status_offline : (words : List (List ℕ)) (files : Option Stored) (rr mr : Type 0) (held held' : Option (List ℕ)) (count count' status : ℕ) (o : Outcome)
-    → IsCaused (record { words = words; files = files; read_failed = rr; maker_failed = mr }) o → Reports o status held held' count count' → IfSome files (λ s. IsStatus words s rr (Rose count count') status)
-status_offline words None rr mr held held' count count' status o caused reports = tt
-status_offline words (Some s) rr mr held held' count count' status o caused reports = λ asked asks. by_report words s rr mr held held' count count' status o caused.0 asked caused.1 asks reports
+-- ---- notices
 
--- where the words are no command line
-pub status_without : (held held' : Option (List ℕ)) (count count' status : ℕ) (o : Outcome) → o ≡ outcome.Refused refusal.CommandLine → Reports o status held held' count count' → (status ≡ 1) ⊎ (((status ≡ 4) × Rose count count') ⊎ (status ≡ 9))
-status_without held held' count count' status o e reports =
-    elim reports.which as (λ w. (status ≡ 1) ⊎ (((status ≡ 4) × Rose count count') ⊎ (status ≡ 9))) [
-      | inl h ↦ inl (h.0 ∙ ap status_of e)
-      | inr h ↦ inr h
-    ]
+same_refusal : (a b : Refusal) → end.Refused a ≡ end.Refused b → a ≡ b
+same_refusal a b e = cc
+
+no_refusal : (a : Refusal) → end.NoMemory ≡ end.Refused a → ⊥
+no_refusal a e = cc
+
+-- want of memory is an answer to each wish
+pub shown_none : (w : Wish) → OnNotice w (λ notice. IsShown notice outcome.NoMemory)
+shown_none (shows notice) = inr refl
+shown_none (runs asked) = tt
+
+-- what is refused is the notice, where one is asked for
+pub shown_refused : (w : Wish) (e : PlanEnd) (why : Refusal) → e ≡ end.Refused why → Heeds w (Err e)
+    → OnNotice w (λ notice. IsShown notice (outcome.Refused why))
+shown_refused (shows notice) e why is (inl at) = inl (ap outcome.Refused (same_refusal _ _ (sym is ∙ at)))
+shown_refused (shows notice) e why is (inr at) = absurd (no_refusal why (sym at ∙ is))
+shown_refused (runs asked) e why is late = tt
+
+-- where something is ready, no notice was asked for
+pub shown_ready : (w : Wish) (ready : Ready) (P : Notice → Type 0) → Heeds w (Ok ready) → OnNotice w P
+shown_ready (shows notice) ready P h = absurd h
+shown_ready (runs asked) ready P h = tt
+
+-- where no notice was asked for, anything holds of one
+pub no_notice : (w : Wish) (P : Notice → Type 0) → OnNotice w (λ notice. ⊥) → OnNotice w P
+no_notice (shows notice) P h = absurd h
+no_notice (runs asked) P h = tt
+
+-- nothing was printed: the sink failed, or memory was wanting
+abbrev Unless : Notice → ℕ → ℕ → ℕ → Type 0
+Unless notice status count count' = ((status ≡ notice_status notice) × (0 ≡ length (notice_text notice)))
+    ⊎ (((status ≡ 4) × Rose count count') ⊎ (status ≡ 9))
+
+reports_shown : (notice : Notice) (held held' : Option (List ℕ)) (count count' status : ℕ) (o : Outcome)
+    → IsShown notice o → Reports o status held held' count count'
+    → Reports (outcome.Refused (refusal.NoCommand notice)) status held held' count count'
+reports_shown notice held held' count count' status o (inl is) reports =
+    subst (λ x. Reports x status held held' count count') is reports
+reports_shown notice held held' count count' status o (inr is) reports =
+    let at : Reports outcome.NoMemory status held held' count count' =
+    subst (λ x. Reports x status held held' count count') is reports in
+    record {
+      printed = 0;
+      tells = at.tells ∙ ap (λ text. with_bytes text held) (take-nil at.printed);
+      later = at.later;
+      which = elim at.which as (λ w. Unless notice status count count') [
+        | inl h ↦ inr (inr h.0)
+        | inr h ↦ inr h
+      ];
+    }
+
+-- what is printed where a notice is asked for
+pub reports_notice : (w : Wish) (held held' : Option (List ℕ)) (count count' status : ℕ) (o : Outcome)
+    → OnNotice w (λ notice. IsShown notice o) → Reports o status held held' count count'
+    → OnNotice w (λ notice. Reports (outcome.Refused (refusal.NoCommand notice)) status held held' count count')
+reports_notice (shows notice) held held' count count' status o h reports =
+    reports_shown notice held held' count count' status o h reports
+reports_notice (runs asked) held held' count count' status o h reports = tt
 
 -- an empty list has no item
 pub no_item : {X : Type 0} (xs : List X) (k : ℕ) → xs ≡ [] → suc k ≤ length xs → ⊥

@@ -1,5 +1,7 @@
 -- The list goes on.
-use Rattle.std.proofs.Common.{◌≡◌, ◌≢◌, ℕ, zero, suc, ◌+◌, ◌-◌, ◌<◌, ◌≤◌, List, [], ◌∷◌, ◌++◌, length, take, drop, set, get_or, refl, ap, sym, ◌∙◌, subst, arith, Bool, true, false, inl, inr, ◌⊎◌, length-append, cond, append-nil, append_assoc}
+use Rattle.std.proofs.Common.{◌≡◌, ◌≢◌, ℕ, zero, suc, ◌+◌, ◌-◌, ◌<◌, ◌≤◌, List, [], ◌∷◌, ◌++◌, length, take, drop, set}
+use Rattle.std.proofs.Common.{get_or, refl, ap, sym, ◌∙◌, subst, arith, Bool, true, false, inl, inr, ◌⊎◌, length-append}
+use Rattle.std.proofs.Common.{cond, append-nil, append_assoc}
 use Rattle.std.proofs.Math.Seq.{take-suc-set}
 use Rattle.std.proofs.lemmas.Bool.{cases_eq, false≢true}
 use Rattle.std.proofs.lemmas.List.{take-append-le}
@@ -26,15 +28,25 @@ in_more i x [] h = elim h [ ]
 in_more i x (y ∷ ys) (inl e) = inl e
 in_more i x (y ∷ ys) (inr h) = inr (in_more i x ys h)
 
-pub within_new : (live live' : List ℕ) (runs runs' : List LinkRun) (x : LinkRun) → runs' ≡ runs ++ x ∷ [] → live' ≡ live ++ length runs ∷ [] → AreWithin live (length runs) → AreWithin live' (length runs')
-within_new live live' runs runs' x e f w = rw (e, f) (record { below = let l : length (runs ++ x ∷ []) ≡ length runs + 1 = length-append runs _ in below_snoc _ (length runs) live (omega arith) (below_more (length runs) _ live (omega arith) w.below) })
+pub within_new : (live live' : List ℕ) (runs runs' : List LinkRun) (x : LinkRun) → runs' ≡ runs ++ x ∷ []
+    → live' ≡ live ++ length runs ∷ [] → AreWithin live (length runs) → AreWithin live' (length runs')
+within_new live live' runs runs' x e f w =
+    rw (e, f) (record {
+      below = let l : length (runs ++ x ∷ []) ≡ length runs + 1 = length-append runs _ in
+          below_snoc _ (length runs) live (omega arith) (below_more (length runs) _ live (omega arith) w.below);
+    })
 
-pub covers_new : (live live' : List ℕ) (runs runs' : List LinkRun) (x : LinkRun) → runs' ≡ runs ++ x ∷ [] → live' ≡ live ++ length runs ∷ [] → Covers live runs → Covers live' runs'
+pub covers_new : (live live' : List ℕ) (runs runs' : List LinkRun) (x : LinkRun) → runs' ≡ runs ++ x ∷ []
+    → live' ≡ live ++ length runs ∷ [] → Covers live runs → Covers live' runs'
 covers_new live live' runs runs' x e f c = rw (e, f) (record {
   each = λ i h. elim (cases_eq i (length runs)) [
     | inl q ↦ inr (subst (λ k. In k (live ++ length runs ∷ [])) (sym q) (in_last (length runs) live))
     | inr ne ↦ let below : i < length runs = let k : i < length runs + 1 = rw length-append at h in omega arith in
-        elim (c.each i below) [ inl s ↦ inl (ap (λ r. r.stage) (old_run runs x i below) ∙ s) | inr n ↦ inr (in_more i (length runs) live n) ]
+        elim (c.each i below) [
+          | inl s ↦ inl (ap (λ r. r.stage) (old_run runs x i below) ∙ s)
+          | inr n ↦ inr
+              (in_more i (length runs) live n)
+        ]
   ];
 })
 
@@ -51,7 +63,8 @@ below_index n live k h w = step live k h w.below
     step (x ∷ xs) zero h b = b.0
     step (x ∷ xs) (suc k) h b = step xs k (omega arith) b.1
 
-pub covers_step : (live : List ℕ) (k : ℕ) (runs runs' : List LinkRun) → k < length live → length runs' ≡ length runs → ((i : ℕ) → i ≢ get_or live k 0 → run_at runs' i ≡ run_at runs i) → Covers live runs → Covers live runs'
+pub covers_step : (live : List ℕ) (k : ℕ) (runs runs' : List LinkRun) → k < length live → length runs' ≡ length runs
+    → ((i : ℕ) → i ≢ get_or live k 0 → run_at runs' i ≡ run_at runs i) → Covers live runs → Covers live runs'
 covers_step live k runs runs' h same others c = record {
   each = λ i hi. elim (cases_eq i (get_or live k 0)) [
     | inl q ↦ inr (subst (λ x. In x live) (sym q) (in_index live k h))
@@ -65,41 +78,52 @@ not_shut Open e = absurd (false≢true e)
 not_shut Shut e = refl
 not_shut Stopped e = absurd (false≢true e)
 
-keep_in : (runs : List LinkRun) (i : ℕ) (live : List ℕ) → In i live → ((run_at runs i).stage ≡ Shut) ⊎ In i (keep runs live)
+keep_in : (runs : List LinkRun) (i : ℕ) (live : List ℕ) → In i live → ((run_at runs i).stage ≡ Shut)
+    ⊎ In i (keep runs live)
 keep_in runs i [] h = elim h [ ]
-keep_in runs i (x ∷ xs) (inl e) = elim (is_shut (run_at runs x).stage) as (λ b. is_shut (run_at runs x).stage ≡ b → ((run_at runs i).stage ≡ Shut) ⊎ In i (cond b (keep runs xs) (x ∷ keep runs xs))) [
-  | true ↦ λ s. inl (ap (λ k. (run_at runs k).stage) (sym e) ∙ not_shut _ s)
-  | false ↦ λ s. inr (inl e)
-] refl
+keep_in runs i (x ∷ xs) (inl e) = elim (is_shut (run_at runs x).stage) as (λ b. is_shut (run_at runs x).stage ≡ b
+    → ((run_at runs i).stage ≡ Shut) ⊎ In i (cond b (keep runs xs) (x ∷ keep runs xs))) [
+      | true ↦ λ s. inl (ap (λ k. (run_at runs k).stage) (sym e) ∙ not_shut _ s)
+      | false ↦ λ s. inr (inl e)
+    ] refl
 keep_in runs i (x ∷ xs) (inr h) = elim (keep_in runs i xs h) [
   | inl s ↦ inl s
-  | inr n ↦ inr (elim (is_shut (run_at runs x).stage) as (λ b. In i (cond b (keep runs xs) (x ∷ keep runs xs))) [ true ↦ n | false ↦ inr n ])
+  | inr n ↦ inr (elim (is_shut (run_at runs x).stage) as (λ b. In i (cond b (keep runs xs) (x ∷ keep runs xs)))
+      [ true ↦ n | false ↦ inr n ])
 ]
 
-pub covers_keep : (live live' : List ℕ) (runs : List LinkRun) → live' ≡ keep runs live → Covers live runs → Covers live' runs
-covers_keep live live' runs e c = rw e (record { each = λ i h. elim (c.each i h) [ inl s ↦ inl s | inr n ↦ keep_in runs i live n ] })
+pub covers_keep : (live live' : List ℕ) (runs : List LinkRun) → live' ≡ keep runs live → Covers live runs
+    → Covers live' runs
+covers_keep live live' runs e c =
+    rw e (record { each = λ i h. elim (c.each i h) [ inl s ↦ inl s | inr n ↦ keep_in runs i live n ] })
 
-pub within_keep : (live live' : List ℕ) (runs : List LinkRun) (n : ℕ) → live' ≡ keep runs live → AreWithin live n → AreWithin live' n
+pub within_keep : (live live' : List ℕ) (runs : List LinkRun) (n : ℕ) → live' ≡ keep runs live → AreWithin live n
+    → AreWithin live' n
 within_keep live live' runs n e w = rw e (record { below = step live w.below })
   where
     step : (live : List ℕ) → AllBelow n live → AllBelow n (keep runs live)
     step [] b = tt
-    step (x ∷ xs) b = elim (is_shut (run_at runs x).stage) as (λ t. AllBelow n (cond t (keep runs xs) (x ∷ keep runs xs))) [ true ↦ step xs b.1 | false ↦ (b.0, step xs b.1) ]
+    step (x ∷ xs) b = elim (is_shut (run_at runs x).stage) as
+        (λ t. AllBelow n (cond t (keep runs xs) (x ∷ keep runs xs))) [ true ↦ step xs b.1 | false ↦ (b.0, step xs b.1) ]
 
 pub all_shut : (live : List ℕ) (runs : List LinkRun) → live ≡ [] → Covers live runs → AreShut runs
 all_shut live runs e c = λ i h. elim (c.each i h) [ inl s ↦ s | inr n ↦ absurd (subst (In i) e n) ]
 
 pub covers_first : (live : List ℕ) (runs : List LinkRun) → runs ≡ [] → Covers live runs
-covers_first live runs e = record { each = λ i h. absurd (let k : i < length {A = LinkRun} [] = subst (λ r. i < length r) e h in omega arith) }
+covers_first live runs e =
+    record { each = λ i h. absurd (let k : i < length {A = LinkRun} [] = subst (λ r. i < length r) e h in omega arith) }
 
 pub within_first : (live : List ℕ) (n : ℕ) → live ≡ [] → AreWithin live n
 within_first live n e = rw e (record { below = tt })
 
-pub place_front : (live : List ℕ) (kept at : ℕ) → kept < length live → take (kept + 1) (set live kept at) ≡ take kept live ++ at ∷ []
-place_front live kept at h = let e : suc kept ≡ kept + 1 = omega arith in subst (λ k. take k (set live kept at) ≡ take kept live ++ at ∷ []) e (take-suc-set live kept at h)
+pub place_front : (live : List ℕ) (kept at : ℕ) → kept < length live → take (kept + 1) (set live kept at)
+    ≡ take kept live ++ at ∷ []
+place_front live kept at h = let e : suc kept ≡ kept + 1 = omega arith in
+    subst (λ k. take k (set live kept at) ≡ take kept live ++ at ∷ []) e (take-suc-set live kept at h)
 
 pub place_rest : (live : List ℕ) (kept at : ℕ) → drop (kept + 1) (set live kept at) ≡ drop (kept + 1) live
-place_rest live kept at = let e : suc kept ≡ kept + 1 = omega arith in subst (λ k. drop k (set live kept at) ≡ drop k live) e (step live kept)
+place_rest live kept at = let e : suc kept ≡ kept + 1 = omega arith in
+    subst (λ k. drop k (set live kept at) ≡ drop k live) e (step live kept)
   where
     step : (live : List ℕ) (kept : ℕ) → drop (suc kept) (set live kept at) ≡ drop (suc kept) live
     step [] kept = refl
@@ -112,8 +136,11 @@ same_at (x ∷ a) [] k h h' e = absurd (omega arith)
 same_at (x ∷ a) (y ∷ b) zero h h' e = cc
 same_at (x ∷ a) (y ∷ b) (suc k) h h' e = same_at a b k (omega arith) (omega arith) e
 
-pub at_within : (runs : List LinkRun) (live init : List ℕ) (k : ℕ) → k < length live → length live ≡ length init → drop k live ≡ drop k init → AreWithin init (length runs) → get_or live k 0 < length runs
-at_within runs live init k h same e w = let b : get_or init k 0 < length runs = below_index (length runs) init k (omega arith) w in subst (λ x. x < length runs) (sym (same_at live init k h (omega arith) e)) b
+pub at_within : (runs : List LinkRun) (live init : List ℕ) (k : ℕ) → k < length live → length live ≡ length init
+    → drop k live ≡ drop k init → AreWithin init (length runs) → get_or live k 0 < length runs
+at_within runs live init k h same e w = let b : get_or init k 0 < length runs =
+    below_index (length runs) init k (omega arith) w in
+    subst (λ x. x < length runs) (sym (same_at live init k h (omega arith) e)) b
 
 drop_more : (a b : List ℕ) (k j : ℕ) → k ≤ j → drop k a ≡ drop k b → drop j a ≡ drop j b
 drop_more a b k j h e = sym (drop_split a) ∙ ap (drop (j - k)) e ∙ drop_split b
@@ -131,14 +158,16 @@ drop_more a b k j h e = sym (drop_split a) ∙ ap (drop (j - k)) e ∙ drop_spli
     drop_split x = let z : k + (j - k) ≡ j = omega arith in again x k (j - k) ∙ ap (λ t. drop t x) z
 
 cons_at : (xs : List ℕ) (k : ℕ) → k < length xs → drop k xs ≡ get_or xs k 0 ∷ drop (k + 1) xs
-cons_at xs k h = let e : suc k ≡ k + 1 = omega arith in subst (λ j. drop k xs ≡ get_or xs k 0 ∷ drop j xs) e (step xs k h)
+cons_at xs k h = let e : suc k ≡ k + 1 = omega arith in
+    subst (λ j. drop k xs ≡ get_or xs k 0 ∷ drop j xs) e (step xs k h)
   where
     step : (xs : List ℕ) (k : ℕ) → k < length xs → drop k xs ≡ get_or xs k 0 ∷ drop (suc k) xs
     step [] k h = absurd (omega arith)
     step (x ∷ xs) zero h = refl
     step (x ∷ xs) (suc k) h = step xs k (omega arith)
 
-keep_cond : (runs : List LinkRun) (x : ℕ) (t r : List ℕ) (b : Bool) → (t ++ cond b [] (x ∷ [])) ++ keep runs r ≡ t ++ cond b (keep runs r) (x ∷ keep runs r)
+keep_cond : (runs : List LinkRun) (x : ℕ) (t r : List ℕ) (b : Bool) → (t ++ cond b [] (x ∷ [])) ++ keep runs r ≡ t
+    ++ cond b (keep runs r) (x ∷ keep runs r)
 keep_cond runs x t r true = ap (λ s. s ++ keep runs r) (append-nil t)
 keep_cond runs x t r false = append_assoc t (x ∷ []) (keep runs r)
 
@@ -148,19 +177,26 @@ pub record Compacts (runs : List LinkRun) (init live : List ℕ) (kept k : ℕ) 
   pub rest : drop k live ≡ drop k init
   pub front : take kept live ++ keep runs (drop k init) ≡ keep runs init
 
-pub compacts : (runs : List LinkRun) (init live live' : List ℕ) (kept kept' k : ℕ) (goes : Bool) → k < length live → Compacts runs init live kept k → goes ≡ is_shut (run_at runs (get_or live k 0)).stage → length live' ≡ length live
-    → take kept' live' ≡ take kept live ++ cond goes [] (get_or live k 0 ∷ []) → drop (kept + 1) live' ≡ drop (kept + 1) live → kept' ≤ kept + 1 → Compacts runs init live' kept' (k + 1)
+pub compacts : (runs : List LinkRun) (init live live' : List ℕ) (kept kept' k : ℕ) (goes : Bool) → k < length live
+    → Compacts runs init live kept k → goes ≡ is_shut (run_at runs (get_or live k 0)).stage → length live' ≡ length live
+    → take kept' live' ≡ take kept live ++ cond goes [] (get_or live k 0 ∷ [])
+    → drop (kept + 1) live' ≡ drop (kept + 1) live → kept' ≤ kept + 1 → Compacts runs init live' kept' (k + 1)
 compacts runs init live live' kept kept' k goes h c d len front rest bound = record {
   behind = let b = c.behind in omega arith;
   same = len ∙ c.same;
-  rest = drop_more live' live (kept + 1) (k + 1) (let b = c.behind in omega arith) rest ∙ drop_more live init k (k + 1) (omega arith) c.rest;
-  front = ap (λ t. t ++ keep runs (drop (k + 1) init)) front ∙ keep_cond runs (get_or live k 0) (take kept live) (drop (k + 1) init) goes
-      ∙ ap (λ b. take kept live ++ cond b (keep runs (drop (k + 1) init)) (get_or live k 0 ∷ keep runs (drop (k + 1) init))) d
-      ∙ ap (λ x. take kept live ++ cond (is_shut (run_at runs x).stage) (keep runs (drop (k + 1) init)) (x ∷ keep runs (drop (k + 1) init))) (same_at live init k h (let s = c.same in omega arith) c.rest)
+  rest = drop_more live' live (kept + 1) (k + 1) (let b = c.behind in omega arith) rest
+      ∙ drop_more live init k (k + 1) (omega arith) c.rest;
+  front = ap (λ t. t ++ keep runs (drop (k + 1) init)) front
+      ∙ keep_cond runs (get_or live k 0) (take kept live) (drop (k + 1) init) goes
+      ∙ ap (λ b. take kept live
+      ++ cond b (keep runs (drop (k + 1) init)) (get_or live k 0 ∷ keep runs (drop (k + 1) init))) d
+      ∙ ap (λ x. take kept live ++ cond (is_shut (run_at runs x).stage) (keep runs (drop (k + 1) init))
+      (x ∷ keep runs (drop (k + 1) init))) (same_at live init k h (let s = c.same in omega arith) c.rest)
       ∙ ap (λ l. take kept live ++ keep runs l) (sym (cons_at init k (let s = c.same in omega arith))) ∙ c.front;
 }
 
-pub truncated : (items' live' y : List ℕ) (kept len : ℕ) → items' ≡ take kept (take len (live' ++ y)) → kept ≤ length live' → kept ≤ len → items' ≡ take kept live'
+pub truncated : (items' live' y : List ℕ) (kept len : ℕ) → items' ≡ take kept (take len (live' ++ y))
+    → kept ≤ length live' → kept ≤ len → items' ≡ take kept live'
 truncated items' live' y kept len e h k = e ∙ shorter kept len (live' ++ y) k ∙ take-append-le kept live' y h
   where
     shorter : (a b : ℕ) (x : List ℕ) → a ≤ b → take a (take b x) ≡ take a x

@@ -1,5 +1,6 @@
 -- The journal grows by one entry.
-use Rattle.std.proofs.Common.{◌≡◌, ◌≢◌, ℕ, ◌+◌, ◌<◌, ◌≤◌, List, [], ◌∷◌, ◌++◌, refl, ap, sym, ◌∙◌, subst, arith, Bool, true, false, ◌&&◌, Option, Some, None, nat_eq, cond, eq-eqb}
+use Rattle.std.proofs.Common.{◌≡◌, ◌≢◌, ℕ, ◌+◌, ◌<◌, ◌≤◌, List, [], ◌∷◌, ◌++◌, refl, ap, sym, ◌∙◌, subst, arith, Bool}
+use Rattle.std.proofs.Common.{true, false, ◌&&◌, Option, Some, None, nat_eq, cond, eq-eqb}
 use Rattle.std.proofs.lemmas.Bool.Decides.{nat_tests}
 use Rattle.std.proofs.lemmas.Bool.{false≢true}
 use Rattle.wd_base.specs.declared.ids.Req.{Req}
@@ -8,9 +9,12 @@ use Rattle.wd_base.specs.declared.http.Reply.{Reply}
 use Rattle.wd_machine.specs.declared.journal.Entry.{Entry}
 use Rattle.wd_machine.specs.declared.journal.Entry.TheVariants.{Arrive, Begin, Turn, Answer, Served, Cancel, Drain}
 use Rattle.wd_machine.specs.Entries.{seat_of}
-use Rattle.wd_top.specs.Talk.{Row, Talk, answered, asked_row, answered_row, add_row, with_reply, with_reply_if, came_over, talk_step, talk_from, no_talk, talk, TakesTurns, NumberedFrom, IsNumbered, arrivals_after, arrival_count, EachOfSeat, IsOfSeat}
+use Rattle.wd_top.specs.Talk.{Row, Talk, answered, asked_row, answered_row, add_row, with_reply, with_reply_if}
+use Rattle.wd_top.specs.Talk.{came_over, talk_step, talk_from, no_talk, talk, TakesTurns, NumberedFrom, IsNumbered}
+use Rattle.wd_top.specs.Talk.{arrivals_after, arrival_count, EachOfSeat, IsOfSeat}
 
-talk_from_push : (s n : ℕ) (t : Talk) (es : List Entry) (e : Entry) → talk_from s n t (es ++ e ∷ []) ≡ talk_step s n (talk_from s n t es) e
+talk_from_push : (s n : ℕ) (t : Talk) (es : List Entry) (e : Entry) → talk_from s n t (es ++ e ∷ [])
+    ≡ talk_step s n (talk_from s n t es) e
 talk_from_push s n t [] e = refl
 talk_from_push s n t (x ∷ es) e = talk_from_push s n (talk_step s n t x) es e
 
@@ -42,7 +46,8 @@ HasNext n (Served seat q reply) = Unit {0}
 HasNext n (Cancel seat q) = Unit {0}
 HasNext n (Drain seat) = Unit {0}
 
-arrivals_push : (n : ℕ) (es : List Entry) (e : Entry) → arrivals_after n (es ++ e ∷ []) ≡ arrivals_after n es + arrives e
+arrivals_push : (n : ℕ) (es : List Entry) (e : Entry) → arrivals_after n (es ++ e ∷ [])
+    ≡ arrivals_after n es + arrives e
 arrivals_push n [] (Arrive seat q service origin allow request) = refl
 arrivals_push n [] (Begin seat q) = omega arith
 arrivals_push n [] (Turn seat q out) = omega arith
@@ -62,7 +67,8 @@ pub count_push : (es : List Entry) (e : Entry) → arrival_count (es ++ e ∷ []
 unfolding arrival_count
 count_push es e = arrivals_push 0 es e
 
-numbered_from_push : (n : ℕ) (es : List Entry) (e : Entry) → NumberedFrom n es → HasNext (arrivals_after n es) e → NumberedFrom n (es ++ e ∷ [])
+numbered_from_push : (n : ℕ) (es : List Entry) (e : Entry) → NumberedFrom n es → HasNext (arrivals_after n es) e
+    → NumberedFrom n (es ++ e ∷ [])
 numbered_from_push n [] (Arrive seat q service origin allow request) x h = (h, tt)
 numbered_from_push n [] (Begin seat q) x h = tt
 numbered_from_push n [] (Turn seat q out) x h = tt
@@ -70,7 +76,8 @@ numbered_from_push n [] (Answer seat q op result) x h = tt
 numbered_from_push n [] (Served seat q reply) x h = tt
 numbered_from_push n [] (Cancel seat q) x h = tt
 numbered_from_push n [] (Drain seat) x h = tt
-numbered_from_push n (Arrive seat q service origin allow request ∷ es) e (y, x) h = (y, numbered_from_push (n + 1) es e x h)
+numbered_from_push n (Arrive seat q service origin allow request ∷ es) e (y, x) h =
+    (y, numbered_from_push (n + 1) es e x h)
 numbered_from_push n (Begin seat q ∷ es) e x h = numbered_from_push n es e x h
 numbered_from_push n (Turn seat q out ∷ es) e x h = numbered_from_push n es e x h
 numbered_from_push n (Answer seat q op result ∷ es) e x h = numbered_from_push n es e x h
@@ -78,7 +85,8 @@ numbered_from_push n (Served seat q reply ∷ es) e x h = numbered_from_push n e
 numbered_from_push n (Cancel seat q ∷ es) e x h = numbered_from_push n es e x h
 numbered_from_push n (Drain seat ∷ es) e x h = numbered_from_push n es e x h
 
-pub numbered_push : (es : List Entry) (e : Entry) → IsNumbered es → HasNext (arrival_count es) e → IsNumbered (es ++ e ∷ [])
+pub numbered_push : (es : List Entry) (e : Entry) → IsNumbered es → HasNext (arrival_count es) e
+    → IsNumbered (es ++ e ∷ [])
 unfolding IsNumbered arrival_count
 numbered_push es e x h = numbered_from_push 0 es e x h
 
@@ -105,24 +113,32 @@ below_snoc n m (r ∷ rs) row h k (x, b) = (omega arith, below_snoc n m rs row h
 
 below_reply : (n q : ℕ) (reply : Reply) (rows : List Row) → Below n rows → Below n (with_reply q reply rows)
 below_reply n q reply [] b = tt
-below_reply n q reply (r ∷ rs) (x, b) = (elim (nat_eq r.req q) as (λ t. (cond t (record r { reply = Some reply }) r).req ≤ n) [ true ↦ x | false ↦ x ], below_reply n q reply rs b)
+below_reply n q reply (r ∷ rs) (x, b) = (
+  elim (nat_eq r.req q) as (λ t. (cond t (record r { reply = Some reply }) r).req ≤ n) [ true ↦ x | false ↦ x ],
+  below_reply n q reply rs b,
+)
 
-below_reply_if : (n q : ℕ) (reply : Option Reply) (rows : List Row) → Below n rows → Below n (with_reply_if q reply rows)
+below_reply_if : (n q : ℕ) (reply : Option Reply) (rows : List Row) → Below n rows
+    → Below n (with_reply_if q reply rows)
 below_reply_if n q None rows b = b
 below_reply_if n q (Some reply) rows b = below_reply n q reply rows b
 
-below_from : (s n m : ℕ) (t : Talk) (es : List Entry) → NumberedFrom m es → Below m t.rows → Below (arrivals_after m es) (talk_from s n t es).rows
+below_from : (s n m : ℕ) (t : Talk) (es : List Entry) → NumberedFrom m es → Below m t.rows
+    → Below (arrivals_after m es) (talk_from s n t es).rows
 below_from s n m t [] x b = b
 below_from s n m t (Arrive seat q service origin allow request ∷ es) (number, x) b =
     below_from s n (m + 1) (talk_step s n t (Arrive seat q service origin allow request)) es x
-    (elim (came_over s n seat origin) as (λ c. Below (m + 1) (cond c (add_row (asked_row q service request) t) t).rows) [
+    (elim (came_over s n seat origin) as
+    (λ c. Below (m + 1) (cond c (add_row (asked_row q service request) t) t).rows) [
       | true ↦ below_snoc m (m + 1) t.rows _ (omega arith) (omega arith) b
       | false ↦ below_more m (m + 1) t.rows (omega arith) b
     ])
 below_from s n m t (Begin seat q ∷ es) x b = below_from s n m t es x b
-below_from s n m t (Turn seat q out ∷ es) x b = below_from s n m (talk_step s n t (Turn seat q out)) es x (below_reply_if m q.0 out.reply t.rows b)
+below_from s n m t (Turn seat q out ∷ es) x b =
+    below_from s n m (talk_step s n t (Turn seat q out)) es x (below_reply_if m q.0 out.reply t.rows b)
 below_from s n m t (Answer seat q op result ∷ es) x b = below_from s n m t es x b
-below_from s n m t (Served seat q reply ∷ es) x b = below_from s n m (talk_step s n t (Served seat q reply)) es x (below_reply m q.0 reply t.rows b)
+below_from s n m t (Served seat q reply ∷ es) x b =
+    below_from s n m (talk_step s n t (Served seat q reply)) es x (below_reply m q.0 reply t.rows b)
 below_from s n m t (Cancel seat q ∷ es) x b = below_from s n m t es x b
 below_from s n m t (Drain seat ∷ es) x b = below_from s n m t es x b
 
@@ -139,14 +155,19 @@ nat_other n m ne = grind (arith, nat_tests)
 
 pub reply_none : (n q : ℕ) (reply : Reply) (rows : List Row) → Below n rows → n < q → with_reply q reply rows ≡ rows
 reply_none n q reply [] b h = refl
-reply_none n q reply (r ∷ rs) (x, b) h = rw (nat_other r.req q (omega arith)) (ap (λ t. r ∷ t) (reply_none n q reply rs b h))
+reply_none n q reply (r ∷ rs) (x, b) h =
+    rw (nat_other r.req q (omega arith)) (ap (λ t. r ∷ t) (reply_none n q reply rs b h))
 
-pub reply_last : (n : ℕ) (q : Req) (service : List ℕ) (request : ReqData) (reply : Reply) (rows : List Row) → Below n rows → n < q.0 → with_reply q.0 reply (rows ++ asked_row q service request ∷ []) ≡ rows ++ answered_row q service request reply ∷ []
+pub reply_last : (n : ℕ) (q : Req) (service : List ℕ) (request : ReqData) (reply : Reply) (rows : List Row)
+    → Below n rows → n < q.0 → with_reply q.0 reply (rows ++ asked_row q service request ∷ []) ≡ rows
+    ++ answered_row q service request reply ∷ []
 reply_last n q service request reply [] b h = rw (nat_self q.0) refl
-reply_last n q service request reply (x ∷ xs) (y, b) h = rw (nat_other x.req q.0 (omega arith)) (ap (λ t. x ∷ t) (reply_last n q service request reply xs b h))
+reply_last n q service request reply (x ∷ xs) (y, b) h =
+    rw (nat_other x.req q.0 (omega arith)) (ap (λ t. x ∷ t) (reply_last n q service request reply xs b h))
 
 -- what `orderly` says
-talk_from_join : (s n : ℕ) (t : Talk) (a b : List Entry) → talk_from s n t (a ++ b) ≡ talk_from s n (talk_from s n t a) b
+talk_from_join : (s n : ℕ) (t : Talk) (a b : List Entry) → talk_from s n t (a ++ b)
+    ≡ talk_from s n (talk_from s n t a) b
 talk_from_join s n t [] b = refl
 talk_from_join s n t (x ∷ a) b = talk_from_join s n (talk_step s n t x) a b
 
@@ -155,7 +176,9 @@ first_of_both true b e = (refl, e)
 first_of_both false b e = absurd (false≢true e)
 
 earlier_step : (s n : ℕ) (t : Talk) (e : Entry) → (talk_step s n t e).orderly ≡ true → t.orderly ≡ true
-earlier_step s n t (Arrive seat q service origin allow request) o = elim (came_over s n seat origin) as (λ c. (cond c (add_row (asked_row q service request) t) t).orderly ≡ true → t.orderly ≡ true) [ true ↦ λ x. (first_of_both t.orderly (answered t.rows) x).0 | false ↦ λ x. x ] o
+earlier_step s n t (Arrive seat q service origin allow request) o =
+    elim (came_over s n seat origin) as (λ c. (cond c (add_row (asked_row q service request) t) t).orderly ≡ true
+    → t.orderly ≡ true) [ true ↦ λ x. (first_of_both t.orderly (answered t.rows) x).0 | false ↦ λ x. x ] o
 earlier_step s n t (Begin seat q) o = o
 earlier_step s n t (Turn seat q out) o = o
 earlier_step s n t (Answer seat q op result) o = o
@@ -172,6 +195,8 @@ unfolding talk
 orderly_means s n j o a b seat q service origin allow request e here =
     let u : Talk = talk_from s n no_talk a in
     let arrival : Entry = Arrive seat q service origin allow request in
-    let whole : (talk_from s n (talk_step s n u arrival) b).orderly ≡ true = ap (λ t. t.orderly) (sym (ap (talk_from s n no_talk) e ∙ talk_from_join s n no_talk a (arrival ∷ b))) ∙ o in
+    let whole : (talk_from s n (talk_step s n u arrival) b).orderly ≡ true =
+    ap (λ t. t.orderly) (sym (ap (talk_from s n no_talk) e ∙ talk_from_join s n no_talk a (arrival ∷ b))) ∙ o in
     let step : (talk_step s n u arrival).orderly ≡ true = earlier s n (talk_step s n u arrival) b whole in
-    (first_of_both u.orderly (answered u.rows) (subst (λ c. (cond c (add_row (asked_row q service request) u) u).orderly ≡ true) here step)).1
+    (first_of_both u.orderly (answered u.rows)
+    (subst (λ c. (cond c (add_row (asked_row q service request) u) u).orderly ≡ true) here step)).1

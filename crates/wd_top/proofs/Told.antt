@@ -7,7 +7,8 @@ told_all None f = tt
 told_all (Some a) f = f a
 
 -- it follows from two facts that hold
-pub told_both : {A : Type 0} {P Q R : A → Type 0} (o : Option A) → IfSome o P → IfSome o Q → ((a : A) → P a → Q a → R a) → IfSome o R
+pub told_both : {A : Type 0} {P Q R : A → Type 0} (o : Option A) → IfSome o P → IfSome o Q → ((a : A) → P a → Q a → R a)
+    → IfSome o R
 told_both None h k f = tt
 told_both (Some a) h k f = f a h k
 

@@ -1,31 +1,44 @@
 -- The journal that a board keeps, beside the machine's state.
-use Rattle.std.specs.Prelude.{◌≡◌, ℕ, ◌+◌, Bool, true, false, List, [], ◌∷◌, ◌++◌, length, Option, Some, None, Result, Ok, Err}
+use Rattle.std.specs.Prelude.{◌≡◌, ℕ, ◌+◌, ◌<◌, Bool, true, false, List, [], ◌∷◌, ◌++◌, length, Option, Some, None}
+use Rattle.std.specs.Prelude.{Result}
+use Rattle.std.specs.Prelude.{Ok, Err}
 use Rattle.wd_base.specs.declared.config.Config.{Config}
 use Rattle.wd_base.specs.declared.http.Reply.{Reply}
+use Rattle.wd_base.specs.declared.http.ReqData.{ReqData}
+use Rattle.wd_base.specs.declared.ids.LinkNo.{LinkNo}
 use Rattle.wd_base.specs.declared.ids.NoMemory.{NoMemory}
 use Rattle.wd_base.specs.declared.ids.Req.{Req}
 use Rattle.wd_base.specs.declared.ids.Seat.{Seat}
+use Rattle.wd_base.specs.declared.objects.Origin.TheVariants.{Outside}
+use Rattle.wd_graph.specs.Links.{first_unknown}
 use Rattle.wd_machine.specs.declared.journal.Entry.{Entry}
-use Rattle.wd_machine.specs.declared.journal.Entry.TheVariants.{Turn}
+use Rattle.wd_machine.specs.declared.journal.Entry.TheVariants.{Arrive, Turn}
 use Rattle.wd_machine.specs.declared.turn.Out.{Out}
 use Rattle.wd_machine.specs.declared.journal.Head.TheVariants.{Whole}
 use Rattle.wd_machine.specs.declared.state.RequestState.{RequestState}
 use Rattle.wd_machine.specs.declared.state.State.{State}
 use Rattle.wd_machine.specs.declared.state.WorkerState.{WorkerState}
+use Rattle.wd_machine.specs.Found.{request_of, worker_for}
 use Rattle.wd_machine.specs.Meaning.{Meaning}
 use Rattle.wd_machine.specs.Runs.{legal, after}
+use Rattle.wd_machine.specs.Steps.{arrived, turn_out}
 use Rattle.wd_top.specs.declared.board.Answer.{Answer}
 use Rattle.wd_top.specs.Talk.{IsNumbered, arrival_count, IsOfSeat}
 
--- the board's one seat
-abbrev pub the_seat : Seat
-the_seat = record { 0 = 0 }
+-- what of a board never changes: its world, and the seat whose journal it is
+pub record Fixed : Type 0 where
+  pub world : Config
+  pub seat : Seat
 
--- the entries are a legal journal of seat 0, its requests numbered in order
-pub record IsRun {I : Type 0} (m : Meaning I) (world : Config) (entries : List Entry) : Type 0 where
+-- what is seen of a board: what never changes, and the entries
+abbrev pub BoardView : Type 0
+BoardView = Fixed × List Entry
+
+-- the entries are a legal journal of the seat, its requests numbered in order
+pub record IsRun {I : Type 0} (seat : Seat) (m : Meaning I) (world : Config) (entries : List Entry) : Type 0 where
   pub allowed : legal m world (record { head = Whole; entries = entries }) ≡ true
   pub numbered : IsNumbered entries
-  pub seat : IsOfSeat 0 entries
+  pub of_seat : IsOfSeat seat.0 entries
 
 -- the requests are numbered from n + 1 on, in order
 abbrev pub RowsFrom : ℕ → List RequestState → Type 0
@@ -47,9 +60,16 @@ abbrev pub has_ended : Option RequestState → Bool
 has_ended None = false
 has_ended (Some r) = r.ended
 
--- each request of the entries has ended
+-- nothing is left to do: each request has ended, no turn runs, nothing waits for one, and nothing is to be freed
+pub record IsFinished {I : Type 0} (s : State I) : Type 0 where
+  pub ended : AreEnded s.requests
+  pub running : s.running ≡ []
+  pub due : s.due ≡ []
+  pub idle : AreIdle s.workers
+
+-- after the entries nothing is left to do
 abbrev pub IsOver : {I : Type 0} → Meaning I → Config → List Entry → Type 0
-IsOver m world entries = AreEnded (after m world entries).requests
+IsOver m world entries = IsFinished (after m world entries)
 
 -- so many requests have arrived, no turn runs or waits, and nothing is to be freed
 pub record Rests {I : Type 0} (s : State I) (n : ℕ) : Type 0 where
@@ -60,7 +80,8 @@ pub record Rests {I : Type 0} (s : State I) (n : ℕ) : Type 0 where
   pub idle : AreIdle s.workers
 
 -- the state is that after the entries, and at rest
-pub record Stands {I : Type 0} (m : Meaning I) (world : Config) (s : State I) (entries : List Entry) (n : ℕ) : Type 0 where
+pub record Stands {I : Type 0} (m : Meaning I) (world : Config) (s : State I) (entries : List Entry) (n : ℕ) :
+    Type 0 where
   pub state : s ≡ after m world entries
   pub rests : Rests s n
   pub count : n ≡ arrival_count entries
@@ -76,6 +97,25 @@ EndsToo (Ok answer) old new = answer.ended ≡ true → AreEnded old → AreEnde
 EndsToo (Err e) old new = Unit {0}
 
 -- the turn's `Out` goes behind the entries, and its reply is given; where no turn ran, nothing
-abbrev pub Ends : Req → Option Out → List Entry → List Entry → Option Reply → Type 0
-Ends q None old new reply = (new ≡ old) × (reply ≡ None)
-Ends q (Some out) old new reply = (new ≡ old ++ Turn the_seat q out ∷ []) × (reply ≡ out.reply)
+abbrev pub Ends : Seat → Req → Option Out → List Entry → List Entry → Option Reply → Type 0
+Ends seat q None old new reply = (new ≡ old) × (reply ≡ None)
+Ends seat q (Some out) old new reply = (new ≡ old ++ Turn seat q out ∷ []) × (reply ≡ out.reply)
+
+-- The entries are a legal journal of the seat, which a server may have, over a linked world. Unless memory ran out, the
+-- machine stands as it is after them, and where no request was left each has ended.
+abbrev pub IsKept : {I : Type 0} → Seat → Meaning I → Config → State I → List Entry → ℕ → Bool → Bool → Type 0
+IsKept seat m world s entries count lingers stopped = IsRun seat m world entries × (first_unknown world ≡ None)
+    × (stopped ≡ false → Stands m world s entries count) × (stopped ≡ false → lingers ≡ false → AreEnded s.requests)
+    × (seat.0 < 64)
+
+-- the entry of a request that comes to a service over a link of the seat
+abbrev pub arrival : Seat → Req → List ℕ → LinkNo → ReqData → Entry
+arrival seat q service link request = Arrive seat q service (Outside link) 1000 request
+
+-- the state once such a request has come
+abbrev pub with_arrival : {I : Type 0} → State I → Seat → Req → List ℕ → LinkNo → ReqData → State I
+with_arrival s seat q service link request = arrived s seat q service (Outside link) 1000 request
+
+-- what the turn of this request gives, where it runs
+abbrev pub out_of : {I : Type 0} → State I → Req → Option Out
+out_of s q = turn_out (request_of q.0 s.requests) (worker_for (request_of q.0 s.requests) s.workers)

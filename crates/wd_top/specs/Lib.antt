@@ -6,3 +6,4 @@ pub mod Steps
 pub mod Table
 pub mod Talk
 pub mod Ended
+pub mod Calls

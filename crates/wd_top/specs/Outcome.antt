@@ -1,5 +1,5 @@
 -- How a call comes out: its status and its text.
-use Rattle.std.specs.Prelude.{◌≡◌, ◌⊎◌, ℕ, List, [], ◌++◌, length, take, Option, codes}
+use Rattle.std.specs.Prelude.{◌≡◌, ◌⊎◌, ◌≤◌, ℕ, List, [], ◌++◌, length, take, Option, codes}
 use Rattle.std.specs.Fmt.{decimal}
 use Rattle.wd_base.specs.declared.config.Addr.{Addr}
 use Rattle.wd_base.specs.declared.ids.Seat.{Seat}
@@ -39,8 +39,15 @@ text_of (outcome.NoPort seat) = port_text seat
 text_of (outcome.NoListen address) = listen_text address
 text_of outcome.NoMemory = []
 
--- the front of the outcome's text was printed: all of it, and then the status is the outcome's, or else 4, where the sink's count rose, or 9
+-- The front of the outcome's text was printed: all of it, and then the status is the outcome's, or else 4, where the
+-- sink's count rose, or 9. The count did not fall.
 pub record Reports (o : Outcome) (status : ℕ) (held held' : Option (List ℕ)) (count count' : ℕ) : Type 0 where
   pub printed : ℕ
   pub tells : held' ≡ with_bytes (take printed (text_of o)) held
-  pub which : ((status ≡ status_of o) × (printed ≡ length (text_of o))) ⊎ (((status ≡ 4) × Rose count count') ⊎ (status ≡ 9))
+  pub later : count ≤ count'
+  pub which : ((status ≡ status_of o) × (printed ≡ length (text_of o)))
+      ⊎ (((status ≡ 4) × Rose count count') ⊎ (status ≡ 9))
+
+-- the same of a sink, by what it holds and how often it failed
+abbrev pub ReportsTo : {K : Type 0} → (K → Option (List ℕ)) → (K → ℕ) → K → K → Outcome → ℕ → Type 0
+ReportsTo held failures out out' o status = Reports o status (held out) (held out') (failures out) (failures out')

@@ -1,5 +1,6 @@
 -- What a journal says of one link.
-use Rattle.std.specs.Prelude.{◌≡◌, ℕ, ◌+◌, Bool, true, false, ◌&&◌, List, [], ◌∷◌, ◌++◌, Option, Some, None, nat_eq, cond, is_some}
+use Rattle.std.specs.Prelude.{◌≡◌, ℕ, ◌+◌, Bool, true, false, ◌&&◌, List, [], ◌∷◌, ◌++◌, Option, Some, None, nat_eq}
+use Rattle.std.specs.Prelude.{cond, is_some}
 use Rattle.wd_base.specs.declared.ids.Req.{Req}
 use Rattle.wd_base.specs.declared.ids.Seat.{Seat}
 use Rattle.wd_base.specs.declared.http.ReqData.{ReqData}
@@ -61,7 +62,8 @@ came_over s n seat Caller = false
 
 -- what each entry of the journal adds to what is known of a connection: a request, a reply, or nothing
 abbrev pub talk_step : ℕ → ℕ → Talk → Entry → Talk
-talk_step s n t (Arrive seat q service origin allow request) = cond (came_over s n seat origin) (add_row (asked_row q service request) t) t
+talk_step s n t (Arrive seat q service origin allow request) =
+    cond (came_over s n seat origin) (add_row (asked_row q service request) t) t
 talk_step s n t (Begin seat q) = t
 talk_step s n t (Turn seat q out) = record t { rows = with_reply_if q.0 out.reply t.rows }
 talk_step s n t (Answer seat q op result) = t
@@ -80,8 +82,10 @@ talk s n journal = talk_from s n no_talk journal
 
 -- each request of the link arrived when all before it had their replies
 abbrev pub TakesTurns : ℕ → ℕ → List Entry → Type 0
-TakesTurns s n journal = (before after : List Entry) (seat : Seat) (q : Req) (service : List ℕ) (origin : Origin) (allow : ℕ) (request : ReqData)
-    → journal ≡ before ++ Arrive seat q service origin allow request ∷ after → came_over s n seat origin ≡ true → answered (talk s n before).rows ≡ true
+TakesTurns s n journal = (before after : List Entry) (seat : Seat) (q : Req) (service : List ℕ) (origin : Origin)
+    (allow : ℕ) (request : ReqData)
+    → journal ≡ before ++ Arrive seat q service origin allow request ∷ after → came_over s n seat origin ≡ true
+    → answered (talk s n before).rows ≡ true
 
 -- the arrivals have the numbers from n + 1 on, in order
 abbrev pub NumberedFrom : ℕ → List Entry → Type 0

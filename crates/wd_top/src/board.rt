@@ -1,17 +1,18 @@
-ghost use Rattle.std.specs.Prelude.{◌≡◌, ℕ, ◌+◌, ◌<◌, [], ◌∷◌, ◌++◌, length, true, false, None, Some, IfOk, OnOk, OnErr, IsTrue, is_some};
+ghost use Rattle.std.specs.Prelude.{◌≡◌, ℕ, ◌+◌, ◌<◌, [], ◌∷◌, ◌++◌, length, true, false, None, Some};
+ghost use Rattle.std.specs.Prelude.{IfOk, OnOk, OnErr, IsTrue, is_some};
 ghost use Rattle.std.specs.List.{position_from};
-ghost use Rattle.wd_base.specs.declared.objects.Origin.TheVariants.{Outside};
 ghost use Rattle.wd_graph.specs.Links.{first_unknown};
 ghost use Rattle.wd_graph.specs.Names.{service_of, is_public};
 ghost use Rattle.wd_machine.specs.declared.journal.Entry.{Entry as EntryIs};
 ghost use Rattle.wd_machine.specs.declared.journal.Head.{Head as HeadIs};
 ghost use Rattle.wd_machine.specs.First.{AreFirst};
-ghost use Rattle.wd_machine.specs.Found.{ArePlaces, is_worker, request_of, worker_for};
+ghost use Rattle.wd_machine.specs.Found.{ArePlaces, is_worker, request_of};
 ghost use Rattle.wd_machine.specs.Runs.{legal};
-ghost use Rattle.wd_machine.specs.Steps.{arrived, begun, turned, turn_out};
-ghost use Rattle.wd_top.specs.Board.{the_seat, IsRun, Stands, Ends, IsOver, EndsToo, has_ended, reply_in};
+ghost use Rattle.wd_machine.specs.Steps.{begun, turned};
+ghost use Rattle.wd_top.specs.Board.{IsRun, Stands, Ends, IsOver, EndsToo, has_ended, reply_in};
+ghost use Rattle.wd_top.specs.Board.{arrival, out_of, with_arrival};
 ghost use Rattle.wd_top.specs.Session.{service_at};
-ghost use Rattle.wd_top.specs.Steps.{Answers};
+ghost use Rattle.wd_top.specs.Steps.{Answers, AnswersOn};
 
 use std::alloc::Global;
 use std::marker::Model;
@@ -24,10 +25,10 @@ use wd_machine::{Entries, Entry, Head, Isolate, Journal, Machine, Places};
 /// How many subrequests a request from outside may make.
 const ALLOWANCE: u32 = 1000;
 
-/// The journal of a server with one seat, and the machine that it drives.
+/// The journal of one seat, and the machine that it drives.
 ///
-/// Contracts see it as its world and its entries, which are at any time a legal journal. After want
-/// of memory it takes no further request.
+/// Contracts see it as its world and its seat, which never change, and its entries, which are at any
+/// time a legal journal. After want of memory it takes no further request.
 ///
 /// The requests are numbered 1, 2, 3 and so on. The newest is found at once, at the last place of
 /// the machine's table; neither the table nor the journal is searched.
@@ -36,6 +37,7 @@ pub struct Board<I: Isolate> {
     world: World,
     machine: Machine<I>,
     entries: Entries,
+    seat: Seat,
     /// How many requests have arrived.
     count: u64,
     /// A request was left that has not ended.
@@ -52,17 +54,13 @@ struct Answer {
 }
 
 impl<I: Isolate> Model for Board<I> {
-    ghost use Rattle.std.specs.Prelude.{◌≡◌, List, false, None};
-    ghost use Rattle.wd_base.specs.declared.config.Config.{Config};
-    ghost use Rattle.wd_graph.specs.Links.{first_unknown};
-    ghost use Rattle.wd_machine.specs.declared.journal.Entry.{Entry};
-    ghost use Rattle.wd_top.specs.Board.{AreEnded, IsRun, Stands};
+    ghost use Rattle.wd_top.specs.Board.{BoardView, IsKept};
 
-    ghost Value = { Config × List Entry };
+    ghost Value = { BoardView };
 
-    ghost view = { λ b. (b.world, b.entries) };
+    ghost view = { λ b. (record { world = b.world; seat = b.seat }, b.entries) };
 
-    ghost invariant = { λ b. IsRun I.means b.world b.entries × (first_unknown b.world ≡ None) × (b.stopped ≡ false → Stands I.means b.world b.machine b.entries b.count) × (b.stopped ≡ false → b.lingers ≡ false → AreEnded b.machine.requests) };
+    ghost invariant = { λ b. IsKept b.seat I.means b.world b.machine b.entries b.count b.lingers b.stopped };
 }
 
 /// The name of the service that answers at a socket.
@@ -75,24 +73,25 @@ fn service_of(alloc: Global, world: &World, socket: SockNo) -> Result<Bytes, NoM
         .try_clone(alloc)
 }
 
-/// A request arrives over a link of seat 0; `worker` is the place of the service's Worker.
+/// A request arrives over a link of a seat; `worker` is the place of the service's Worker.
 fn arrive<I>(
     alloc: Global,
     machine: &mut Machine<I>,
     entries: &mut Entries,
     worker: Option<usize>,
+    seat: Seat,
     req: Req,
     service: &Bytes,
     link: LinkNo,
     request: ReqData,
 ) -> Result<(), NoMemory>
     requires { position_from (is_worker service.now) 0 machine.old.workers ≡ worker }
-    ensures state { OnOk result (machine.new ≡ arrived machine.old the_seat req service.now (Outside link) 1000 request) }
-    ensures entries { OnOk result (entries.new ≡ entries.old ++ EntryIs.Arrive the_seat req service.now (Outside link) 1000 request ∷ []) }
+    ensures state { OnOk result (machine.new ≡ with_arrival machine.old seat req service.now link request) }
+    ensures entries { OnOk result (entries.new ≡ entries.old ++ arrival seat req service.now link request ∷ []) }
     ensures err { OnErr result (entries.new ≡ entries.old) }
 {
     let entry = Entry::Arrive {
-        seat: Seat(0),
+        seat,
         req,
         service: service.try_clone(alloc)?,
         origin: Origin::Outside(link),
@@ -102,7 +101,7 @@ fn arrive<I>(
     let service = service.try_clone(alloc)?;
     machine.arrive(
         worker,
-        Seat(0),
+        seat,
         req,
         service,
         Origin::Outside(link),
@@ -116,16 +115,17 @@ fn arrive<I>(
 fn begin<I: Isolate>(
     machine: &mut Machine<I>,
     entries: &mut Entries,
+    seat: Seat,
     places: Places,
 ) -> Result<(), NoMemory>
     requires { ArePlaces machine.old.workers machine.old.requests places }
-    ensures state { OnOk result (machine.new ≡ begun I.means machine.old the_seat places.req) }
-    ensures entries { OnOk result (entries.new ≡ entries.old ++ EntryIs.Begin the_seat places.req ∷ []) }
+    ensures state { OnOk result (machine.new ≡ begun I.means machine.old seat places.req) }
+    ensures entries { OnOk result (entries.new ≡ entries.old ++ EntryIs.Begin seat places.req ∷ []) }
     ensures err { OnErr result (entries.new ≡ entries.old) }
 {
-    machine.begin(places, Seat(0))?;
+    machine.begin(places, seat)?;
     entries.push(Entry::Begin {
-        seat: Seat(0),
+        seat,
         req: places.req,
     })
 }
@@ -135,19 +135,20 @@ fn finish<I: Isolate>(
     alloc: Global,
     machine: &mut Machine<I>,
     entries: &mut Entries,
+    seat: Seat,
     places: Places,
 ) -> Result<Option<Reply>, NoMemory>
     requires { ArePlaces machine.old.workers machine.old.requests places }
-    ensures state { OnOk result (machine.new ≡ turned machine.old the_seat places.req) }
-    ensures entries { IfOk result (λ reply. Ends places.req (turn_out (request_of places.req.0 machine.old.requests) (worker_for (request_of places.req.0 machine.old.requests) machine.old.workers)) entries.old entries.new reply) }
+    ensures state { OnOk result (machine.new ≡ turned machine.old seat places.req) }
+    ensures entries { IfOk result (Ends seat places.req (out_of machine.old places.req) entries.old entries.new) }
     ensures err { OnErr result (entries.new ≡ entries.old) }
 {
-    let Some(out) = machine.turn(places, Seat(0))? else {
+    let Some(out) = machine.turn(places, seat)? else {
         return Ok(None);
     };
     let reply = out.reply.try_clone(alloc)?;
     entries.push(Entry::Turn {
-        seat: Seat(0),
+        seat,
         req: places.req,
         out,
     })?;
@@ -171,24 +172,28 @@ fn exchange<I: Isolate>(
     world: &World,
     machine: &mut Machine<I>,
     entries: &mut Entries,
+    seat: Seat,
     count: u64,
     link: LinkNo,
     service: &Bytes,
     request: ReqData,
 ) -> Result<Answer, NoMemory>
-    requires run { IsRun I.means world.now entries.old }
+    requires below { seat.0 < 64 }
+    requires run { IsRun seat I.means world.now entries.old }
     requires stands { Stands I.means world.now machine.old entries.old count }
     requires known { is_some (service_of service.now world.now.services) ≡ true }
     requires public { is_public world.now service.now ≡ true }
     requires room { count + 1 < 18446744073709551616 }
-    ensures answers { Answers link service.now request entries.old entries.new (reply_in result) }
-    ensures run { IsRun I.means world.now entries.new }
+    ensures answers { Answers seat link service.now request entries.old entries.new (reply_in result) }
+    ensures run { IsRun seat I.means world.now entries.new }
     ensures stands { OnOk result (Stands I.means world.now machine.new entries.new (count + 1)) }
     ensures ended { EndsToo result machine.old.requests machine.new.requests }
 {
     let req = Req(count + 1);
     let worker = machine.worker_place(service.as_slice());
-    arrive(alloc, machine, entries, worker, req, service, link, request)?;
+    arrive(
+        alloc, machine, entries, worker, seat, req, service, link, request,
+    )?;
     let Some(place) = worker else {
         return Ok(Answer {
             reply: None,
@@ -200,25 +205,32 @@ fn exchange<I: Isolate>(
         row: Some(count as usize),
         worker: Some(place),
     };
-    begin(machine, entries, places)?;
-    let reply = finish(alloc, machine, entries, places)?;
+    begin(machine, entries, seat, places)?;
+    let reply = finish(alloc, machine, entries, seat, places)?;
     let ended = has_ended(machine, places);
     Ok(Answer { reply, ended })
 }
 
 impl<I: Isolate + Drop> Board<I> {
-    /// An empty journal. `isolates` has the first isolate of each Worker of the world, in order,
-    /// and every name in the world is that of a service.
-    pub fn new(alloc: Global, world: World, isolates: Vec<I>) -> Result<Board<I>, NoMemory>
+    /// An empty journal of a seat, of which a server has 64 at most. `isolates` has the first isolate
+    /// of each Worker of the world, in order, and every name in the world is that of a service.
+    pub fn new(
+        alloc: Global,
+        seat: Seat,
+        world: World,
+        isolates: Vec<I>,
+    ) -> Result<Board<I>, NoMemory>
+        requires below { seat.0 < 64 }
         requires first { AreFirst I.means world isolates.items }
         requires known { first_unknown world ≡ None }
-        ensures { IfOk result (λ board. board ≡ (world, [])) }
+        ensures { IfOk result (λ board. board ≡ (record { world = world; seat = seat }, [])) }
     {
         let machine = Machine::new(alloc, &world, isolates)?;
         Ok(Board {
             world,
             machine,
             entries: Entries::new(alloc),
+            seat,
             count: 0,
             lingers: false,
             stopped: false,
@@ -229,8 +241,8 @@ impl<I: Isolate + Drop> Board<I> {
     pub fn into_journal(self) -> Journal
         ensures entries { result.entries ≡ self.1 }
         ensures head { result.head ≡ HeadIs.Whole }
-        ensures legal { IsTrue (legal I.means self.0 result) }
-        ensures run { IsRun I.means self.0 self.1 }
+        ensures legal { IsTrue (legal I.means self.0.world result) }
+        ensures run { IsRun self.0.seat I.means self.0.world self.1 }
     {
         let Board { entries, .. } = self;
         Journal {
@@ -241,31 +253,31 @@ impl<I: Isolate + Drop> Board<I> {
 }
 
 impl<I: Isolate> Board<I> {
-    /// The entries are at any time a legal journal of seat 0, with its requests numbered in order.
-    pub fn is_run(&self)
-        ensures { IsRun I.means self.now.0 self.now.1 }
+    /// The seat whose journal it is.
+    pub fn seat(&self) -> Seat
+        ensures { result ≡ self.now.0.seat }
     {
-        let _ = &self.entries;
+        self.seat
     }
 
     /// Whether each request that arrived has ended. It is false after want of memory.
     #[tactic(auto, using(crate::proofs::BoardSteps::over_after))]
     pub fn is_over(&self) -> bool
-        ensures { IsTrue result → IsOver I.means self.now.0 self.now.1 }
+        ensures { IsTrue result → IsOver I.means self.now.0.world self.now.1 }
     {
         !self.stopped && !self.lingers
     }
 
     /// The sockets of the world, in order.
     pub fn sockets(&self) -> &Sockets
-        ensures { result.now ≡ self.now.0.sockets }
+        ensures { result.now ≡ self.now.0.world.sockets }
     {
         self.world.sockets()
     }
 
     /// A request over a link that came at a socket, from its arrival to the end of its turn. It
     /// gives the request's reply as it stands in the journal, and None where the request has none.
-    #[tactic(auto, using(crate::proofs::BoardSteps::unasked, crate::proofs::BoardSteps::service_known, crate::proofs::BoardSteps::service_public))]
+    #[tactic(auto, using(crate::proofs::BoardSteps::unasked))]
     pub fn answer(
         &mut self,
         alloc: Global,
@@ -273,9 +285,9 @@ impl<I: Isolate> Board<I> {
         socket: SockNo,
         request: ReqData,
     ) -> Result<Option<Reply>, NoMemory>
-        requires { socket.0 < length self.old.0.sockets }
-        ensures answers { Answers link (service_at self.old.0.sockets socket) request self.old.1 self.new.1 result }
-        ensures world { self.new.0 ≡ self.old.0 }
+        requires { socket.0 < length self.old.0.world.sockets }
+        ensures answers { AnswersOn link socket request self.old self.new result }
+        ensures fixed { self.new.0 ≡ self.old.0 }
     {
         if self.stopped || self.count == u64::MAX {
             return Err(NoMemory);
@@ -289,6 +301,7 @@ impl<I: Isolate> Board<I> {
             &self.world,
             &mut self.machine,
             &mut self.entries,
+            self.seat,
             self.count,
             link,
             &service,

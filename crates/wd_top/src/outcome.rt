@@ -1,5 +1,5 @@
 ghost use Rattle.std.specs.Prelude.{◌≡◌, IfOk};
-ghost use Rattle.wd_top.specs.Outcome.{status_of, text_of, checked_text, port_text, listen_text, Reports};
+ghost use Rattle.wd_top.specs.Outcome.{status_of, text_of, checked_text, port_text, listen_text, ReportsTo};
 
 use std::alloc::Global;
 use wd_base::{Addr, NoMemory, Seat};
@@ -86,7 +86,7 @@ fn listen_text(alloc: Global, address: &Addr) -> Result<Vec<u8>, NoMemory>
 /// Prints the text of an outcome, and gives the exit status: that of the outcome, or 4 where the
 /// sink failed, or 9 for want of memory.
 pub(crate) fn report<K: Sink>(alloc: Global, out: &mut K, outcome: &Outcome) -> u8
-    ensures reports { Reports outcome.now result (K.held out.old) (K.held out.new) (K.failures out.old) (K.failures out.new) }
+    ensures reports { ReportsTo K.held K.failures out.old out.new outcome.now result }
 {
     match text_of(alloc, outcome) {
         Err(NoMemory) => 9,

@@ -16,7 +16,7 @@ ghost use Rattle.std.specs.Prelude.{◌≡◌, ◌<◌, ◌^◌, [], length, tru
 ghost use Rattle.wd_ports.specs.Links.{Keeps, Stays};
 ghost use Rattle.wd_top.specs.declared.seat.table.Taken.{Taken as TakenIs};
 ghost use Rattle.wd_top.specs.Board.{IsOver};
-ghost use Rattle.wd_top.specs.Session.{Session, Done};
+ghost use Rattle.wd_top.specs.Session.{Session, AreDone};
 ghost use Rattle.wd_top.specs.Steps.{NoneFell};
 ghost use Rattle.wd_top.specs.Table.{addresses, SameFiles};
 
@@ -71,17 +71,18 @@ pub fn run<R: Wait, P: Port, I: Isolate>(
     port: &mut P,
     board: &mut Board<I>,
 ) -> Result<(), NoMemory>
-    requires sockets { (P.told port.old).sockets ≡ addresses board.old.0.sockets }
+    requires sockets { (P.told port.old).sockets ≡ addresses board.old.0.world.sockets }
     requires links { IfSome (P.told port.old).links (λ links. links ≡ []) }
     requires given { (P.told port.old).given ≡ 0 }
     requires journal { board.old.1 ≡ [] }
-    ensures session { IfSome (P.told port.new).links (Session board.old.0.sockets board.new.1) }
-    ensures done { OnOk result (IfSome (P.told port.new).links (Done board.old.0.sockets (P.gone port.new) board.new.1)) }
+    ensures session { IfSome (P.told port.new).links (Session board.old.0.seat board.old.0.world.sockets board.new.1) }
+    ensures done { OnOk result (AreDone board.old.0.seat board.old.0.world.sockets (P.told port.new) (P.gone port.new)
+        board.new.1) }
     ensures closed { OnOk result ((P.told port.new).closed ≡ true) }
-    ensures over { OnOk result (IsOver I.means board.new.0 board.new.1) }
+    ensures over { OnOk result (IsOver I.means board.new.0.world board.new.1) }
     ensures sockets { (P.told port.new).sockets ≡ (P.told port.old).sockets }
     ensures files { SameFiles (P.told port.old) (P.told port.new) }
-    ensures world { board.new.0 ≡ board.old.0 }
+    ensures fixed { board.new.0 ≡ board.old.0 }
     ensures faults { NoneFell (P.faults port.old) (P.faults port.new) }
 {
     let mut runs: Vec<LinkRun> = Vec::new(alloc);

@@ -1,9 +1,11 @@
-ghost use Rattle.std.specs.Prelude.{◌≡◌, ◌<◌, ◌≤◌, [], ◌∷◌, ◌++◌, length, vec_len, vec_capacity, IfErr, IfSome, OnOk, All};
+ghost use Rattle.std.specs.Prelude.{◌≡◌, ◌<◌, ◌≤◌, [], ◌∷◌, ◌++◌, length, vec_len, vec_capacity};
 ghost use Rattle.wd_ports.specs.Faults.{Rose};
 ghost use Rattle.wd_ports.specs.Told.{IsNewPort};
 ghost use Rattle.wd_top.specs.declared.outcome.Outcome.TheVariants as outcome;
 ghost use Rattle.wd_top.specs.Board.{IsOver};
-ghost use Rattle.wd_top.specs.Ended.{IsFront, Listens, IsListenEnd, Holds, HasPort, IsSessionEnd, IsPortFault, NoPortMade};
+ghost use Rattle.wd_top.specs.Calls.{AtPorts, KeepFiles};
+ghost use Rattle.wd_top.specs.Ended.{HasPort, Holds, IsFront, IsListenEnd, IsPortFault, IsSessionEnd};
+ghost use Rattle.wd_top.specs.Ended.{Listens, NoPortMade};
 ghost use Rattle.wd_top.specs.Table.{addresses, SameFiles};
 
 use crate::board::Board;
@@ -11,7 +13,7 @@ use crate::outcome::Outcome;
 use crate::seat;
 use std::alloc::Global;
 use std::sync::Wait;
-use wd_base::{Addr, NoMemory, Seat, Socket, TryClone};
+use wd_base::{Addr, NoMemory, Socket, TryClone};
 use wd_machine::Isolate;
 use wd_ports::{Failed, Files, Maker, Port};
 
@@ -52,12 +54,13 @@ fn run_port<R: Wait, P: Port, I: Isolate>(
 ) -> Outcome
     requires fresh { IsNewPort (P.told port.old) }
     requires journal { board.old.1 ≡ [] }
-    ensures holds { Holds board.old.0 result (P.told port.new) (P.gone port.new) (P.faults port.new) board.new.1 }
-    ensures over { result ≡ outcome.Done → IsOver I.means board.new.0 board.new.1 }
+    ensures holds { Holds board.old.0.seat board.old.0.world result (P.told port.new) (P.gone port.new)
+        (P.faults port.new) board.new.1 }
+    ensures over { result ≡ outcome.Done → IsOver I.means board.new.0.world board.new.1 }
     ensures unused { IsPortFault result → board.new.1 ≡ [] }
     ensures files { SameFiles (P.told port.old) (P.told port.new) }
-    ensures world { board.new.0 ≡ board.old.0 }
-    ensures end { IsSessionEnd result }
+    ensures fixed { board.new.0 ≡ board.old.0 }
+    ensures end { IsSessionEnd board.old.0.seat result }
 {
     match listen_all(alloc, port, board.sockets().as_slice()) {
         Err(outcome) => outcome,
@@ -78,7 +81,7 @@ fn add_port<P: Drop>(ports: &mut Vec<P>, port: P)
     }
 }
 
-/// The session over the port that the maker gives for the one seat. The port is handed out, also
+/// The session over the port that the maker gives for the board's seat. The port is handed out, also
 /// where it could not listen. A world without sockets makes none.
 #[tactic(auto, using(crate::proofs::EndSteps::nothing_over))]
 pub fn run_ports<R: Wait, M: Maker, I: Isolate>(
@@ -90,16 +93,18 @@ pub fn run_ports<R: Wait, M: Maker, I: Isolate>(
 ) -> Outcome
     requires ports { ports.old.items ≡ [] }
     requires journal { board.old.1 ≡ [] }
-    ensures ports { All (λ p. Holds board.old.0 result (M.Port.Files.told p) (M.Port.Files.gone p) (M.Port.Files.faults p) board.new.1) ports.new.items }
-    ensures one { HasPort result → 0 < length board.old.0.sockets → length ports.new.items ≡ 1 }
-    ensures idle { board.old.0.sockets ≡ [] → (ports.new.items ≡ []) × (board.new.1 ≡ []) }
-    ensures none { NoPortMade result → (ports.new.items ≡ []) × Rose (M.failures maker.old) (M.failures maker.new) }
+    ensures ports { AtPorts board.old.0.seat M.Port.Files.told M.Port.Files.gone M.Port.Files.faults ports.new.items
+        board.new.1 result board.old.0.world }
     ensures few { length ports.new.items ≤ 1 }
-    ensures over { result ≡ outcome.Done → IsOver I.means board.new.0 board.new.1 }
+    ensures one { HasPort board.old.0.world result → length ports.new.items ≡ 1 }
+    ensures idle { board.old.0.world.sockets ≡ [] → length ports.new.items ≡ 0 }
+    ensures unheard { length ports.new.items ≡ 0 → board.new.1 ≡ [] }
+    ensures failed { NoPortMade result → Rose (M.failures maker.old) (M.failures maker.new) }
+    ensures over { result ≡ outcome.Done → IsOver I.means board.new.0.world board.new.1 }
     ensures unused { IsPortFault result → board.new.1 ≡ [] }
-    ensures files { All (λ p. IfSome (M.plan maker.old (record { 0 = 0 })) (λ t. SameFiles t (M.Port.Files.told p))) ports.new.items }
-    ensures world { board.new.0 ≡ board.old.0 }
-    ensures end { IsSessionEnd result }
+    ensures files { KeepFiles board.old.0.seat M.plan maker.old M.Port.Files.told ports.new.items }
+    ensures fixed { board.new.0 ≡ board.old.0 }
+    ensures end { IsSessionEnd board.old.0.seat result }
 {
     if board.sockets().is_empty() {
         return Outcome::Done;
@@ -107,9 +112,10 @@ pub fn run_ports<R: Wait, M: Maker, I: Isolate>(
     if ports.reserve(1).is_err() {
         return Outcome::NoMemory;
     }
-    match maker.port(alloc, Seat(0)) {
+    let seat = board.seat();
+    match maker.port(alloc, seat) {
         Err(Failed::NoMemory) => Outcome::NoMemory,
-        Err(Failed::Fault) => Outcome::NoPort(Seat(0)),
+        Err(Failed::Fault) => Outcome::NoPort(seat),
         Ok(port) => {
             let mut port = port;
             let outcome = run_port(rt, alloc, &mut port, board);

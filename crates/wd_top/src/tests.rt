@@ -5,9 +5,11 @@ use std::alloc::Global;
 use std::sync::Wait;
 use std::test::Fail;
 use std::thread::Threads;
-use wd_base::{Bytes, LinkNo, NoMemory, Numbers, Origin, ReqData, Seq, SockNo, Why};
+use wd_base::{
+    Bytes, LinkNo, NoMemory, Numbers, Obj, Objs, Origin, Reply, ReqData, Same, Seq, SockNo, Why,
+};
+use wd_command::serves;
 use wd_machine::{Entry, Out};
-use wd_plan::serves;
 use wd_ports::{
     Failed, MemFiles, MemMaker, MemPort, MemSink, NoGate, PortEvent, PortPlan, Sink, Timed,
 };
@@ -61,6 +63,24 @@ const two :Workerd.Config = (
 const hello :Workerd.Worker = (modules = [(name = \"a\", esModule = embed \"worker.js\")]);
 ";
 
+const TWO_EMPTY: &[u8] = b"using Workerd = import \"/workerd/workerd.capnp\";
+const a :Workerd.Config = ();
+const b :Workerd.Config = ();
+";
+
+/// The base configuration with a binding to a service that is not there.
+const NOWHERE: &[u8] = b"using Workerd = import \"/workerd/workerd.capnp\";
+const config :Workerd.Config = (
+  services = [ (name = \"main\", worker = .hello), ],
+  sockets = [ (name = \"http\", address = \"*:8080\", http = (), service = \"main\") ],
+);
+const hello :Workerd.Worker = (
+  modules = [ (name = \"worker\", esModule = embed \"worker.js\") ],
+  compatibilityDate = \"2024-01-01\",
+  bindings = [ (name = \"X\", service = \"nowhere\") ],
+);
+";
+
 const OTHER_SCRIPT: &[u8] = b"export default {};\n";
 
 const GET: &[u8] = b"GET / HTTP/1.1\r\nHost: localhost:8080\r\n\r\n";
@@ -72,13 +92,28 @@ const REPLY_HEAD: &[u8] =
     b"HTTP/1.1 200 OK\r\ncontent-type: text/plain;charset=UTF-8\r\ncontent-length: 12\r\n\r\n";
 
 const REPLY_CLOSING: &[u8] =
-    b"HTTP/1.1 200 OK\r\ncontent-type: text/plain;charset=UTF-8\r\ncontent-length: 12\r\nconnection: close\r\n\r\nHello World\n";
+    b"HTTP/1.1 200 OK\r\ncontent-type: text/plain;charset=UTF-8\r\ncontent-length: 12\r\n\
+    connection: close\r\n\r\nHello World\n";
 
 const TOO_LARGE: &[u8] =
-    b"HTTP/1.1 413 Payload Too Large\r\ncontent-type: text/plain;charset=UTF-8\r\ncontent-length: 17\r\nconnection: close\r\n\r\nPayload Too Large";
+    b"HTTP/1.1 413 Payload Too Large\r\ncontent-type: text/plain;charset=UTF-8\r\n\
+    content-length: 17\r\nconnection: close\r\n\r\nPayload Too Large";
 
-const BAD: &[u8] =
-    b"HTTP/1.1 400 Bad Request\r\ncontent-type: text/plain;charset=UTF-8\r\ncontent-length: 11\r\nconnection: close\r\n\r\nBad Request";
+const BAD: &[u8] = b"HTTP/1.1 400 Bad Request\r\ncontent-type: text/plain;charset=UTF-8\r\n\
+    content-length: 11\r\nconnection: close\r\n\r\nBad Request";
+
+const TOO_LARGE_HEAD: &[u8] =
+    b"HTTP/1.1 413 Payload Too Large\r\ncontent-type: text/plain;charset=UTF-8\r\n\
+    content-length: 17\r\nconnection: close\r\n\r\n";
+
+const BAD_HEAD: &[u8] = b"HTTP/1.1 400 Bad Request\r\ncontent-type: text/plain;charset=UTF-8\r\n\
+    content-length: 11\r\nconnection: close\r\n\r\n";
+
+/// An empty line may stand before a request.
+const HEAD_WITHOUT_HOST: &[u8] = b"\r\nHEAD / HTTP/1.1\r\n\r\n";
+
+const HEAD_LARGE: &[u8] =
+    b"HEAD / HTTP/1.1\r\nHost: localhost:8080\r\nContent-Length: 1048577\r\n\r\n";
 
 const PIPELINED: &[u8] =
     b"GET / HTTP/1.1\r\nHost: localhost:8080\r\n\r\nGET /a HTTP/1.1\r\nHost: b\r\n\r\n";
@@ -376,7 +411,9 @@ fn a_link_carries_the_replies_of_its_requests(rt: HostRuntime) -> Result<(), Fai
 
 #[test]
 fn requests_of_each_kind_are_served(rt: HostRuntime) -> Result<(), Fail> {
-    let cases: [(&[&[u8]], &[&[u8]], usize); 7] = [
+    let cases: [(&[&[u8]], &[&[u8]], usize); 9] = [
+        (&[HEAD_WITHOUT_HOST, GET], &[BAD_HEAD], 0),
+        (&[GET, HEAD_LARGE], &[REPLY, TOO_LARGE_HEAD], 3),
         (&[CURL, CURL], &[REPLY, REPLY], 6),
         (&[COUNTED, GET], &[REPLY, REPLY], 6),
         (&[CHUNKED, GET], &[REPLY, REPLY], 6),
@@ -452,58 +489,102 @@ fn two_links_have_their_own_replies(rt: HostRuntime) -> Result<(), Fail> {
     Ok(())
 }
 
-fn is_worked_arrive(entry: &Entry) -> bool {
-    let Entry::Arrive {
-        seat,
-        req,
-        service,
-        origin,
-        allow,
-        request,
-    } = entry
-    else {
-        return false;
-    };
-    seat.0 == 0
-        && req.0 == 1
-        && service.as_slice() == b"main".as_slice()
-        && *origin == Origin::Outside(LinkNo(1))
-        && *allow == 1000
-        && request.url.as_slice() == b"http://localhost:8080/".as_slice()
+/// The request of the worked journal, and the reply to it.
+fn worked_request(alloc: Global) -> Result<ReqData, NoMemory> {
+    let mut fields = Seq::new(alloc);
+    fields.push((
+        Seq::copy(alloc, b"host")?,
+        Seq::copy(alloc, b"localhost:8080")?,
+    ))?;
+    Ok(ReqData {
+        method: Seq::copy(alloc, b"GET")?,
+        url: Seq::copy(alloc, b"http://localhost:8080/")?,
+        fields,
+        body: None,
+    })
 }
 
-fn is_worked_begin(entry: &Entry) -> bool {
+fn worked_reply(alloc: Global) -> Result<Reply, NoMemory> {
+    let mut fields = Seq::new(alloc);
+    fields.push((
+        Seq::copy(alloc, b"content-type")?,
+        Seq::copy(alloc, b"text/plain;charset=UTF-8")?,
+    ))?;
+    Ok(Reply {
+        status: 200,
+        fields,
+        body: Seq::copy(alloc, b"Hello World\n")?,
+        why: Why::Plain,
+    })
+}
+
+/// Objects 0 and 1: the request and its context.
+fn both_objects(alloc: Global) -> Result<Objs, NoMemory> {
+    let mut objects = Seq::new(alloc);
+    objects.push(Obj(0))?;
+    objects.push(Obj(1))?;
+    Ok(objects)
+}
+
+/// What the one turn of the worked journal did.
+fn worked_out(alloc: Global) -> Result<Out, NoMemory> {
+    Ok(Out {
+        made: both_objects(alloc)?,
+        changed: Seq::new(alloc),
+        freed: both_objects(alloc)?,
+        uses: Seq::new(alloc),
+        stray: Seq::new(alloc),
+        ops: Seq::new(alloc),
+        reply: Some(worked_reply(alloc)?),
+        waits: 0,
+        cross: Seq::new(alloc),
+        released: Seq::new(alloc),
+        condemned: false,
+        heavy: false,
+        logs: Seq::new(alloc),
+        steps: 4,
+    })
+}
+
+fn is_arrive(entry: &Entry, expected: &ReqData) -> bool {
     match entry {
-        Entry::Begin { req, .. } => req.0 == 1,
+        Entry::Arrive {
+            seat,
+            req,
+            service,
+            origin,
+            allow,
+            request,
+        } => {
+            seat.0 == 0
+                && req.0 == 1
+                && service.as_slice() == b"main".as_slice()
+                && *origin == Origin::Outside(LinkNo(1))
+                && *allow == 1000
+                && request.same(expected)
+        }
         _ => false,
     }
 }
 
-fn is_worked_turn(entry: &Entry) -> bool {
+fn is_begin(entry: &Entry) -> bool {
     match entry {
-        Entry::Turn { req, out, .. } => req.0 == 1 && is_worked_out(out),
+        Entry::Begin { seat, req } => seat.0 == 0 && req.0 == 1,
         _ => false,
     }
 }
 
-fn is_worked_out(out: &Out) -> bool {
-    let Some(reply) = &out.reply else {
-        return false;
-    };
-    out.made.len() == 2
-        && out.freed.len() == 2
-        && out.changed.is_empty()
-        && out.uses.is_empty()
-        && out.steps == 4
-        && reply.status == 200
-        && reply.why == Why::Plain
-        && reply.body.as_slice() == b"Hello World\n".as_slice()
+fn is_turn(entry: &Entry, expected: &Out) -> bool {
+    match entry {
+        Entry::Turn { seat, req, out } => seat.0 == 0 && req.0 == 1 && out.same(expected),
+        _ => false,
+    }
 }
 
-fn is_worked_journal(entries: &[Entry]) -> bool {
+fn is_worked_journal(entries: &[Entry], request: &ReqData, out: &Out) -> bool {
     match entries {
         [arrive, begin, turn] => {
-            is_worked_arrive(arrive) && is_worked_begin(begin) && is_worked_turn(turn)
+            is_arrive(arrive, request) && is_begin(begin) && is_turn(turn, out)
         }
         _ => false,
     }
@@ -511,8 +592,11 @@ fn is_worked_journal(entries: &[Entry]) -> bool {
 
 #[test]
 fn the_journal_of_one_request(rt: HostRuntime) -> Result<(), Fail> {
+    let request = worked_request(rt.alloc())?;
+    let out = worked_out(rt.alloc())?;
     let came = call(&rt, rt.alloc(), &one_link(&[GET]), None)?;
-    assert!(rt; is_worked_journal(came.ended.journal.entries.as_slice()));
+    let entries = came.ended.journal.entries.as_slice();
+    assert!(rt; is_worked_journal(entries, &request, &out));
     Ok(())
 }
 
@@ -613,8 +697,27 @@ fn a_world_without_sockets_makes_no_port(rt: HostRuntime) -> Result<(), Fail> {
 
 #[test]
 fn a_check_serves_nothing(rt: HostRuntime) -> Result<(), Fail> {
-    let cases: [(&[&str], &[u8], u8, &[u8]); 5] = [
+    let cases: [(&[&str], &[u8], u8, &[u8]); 9] = [
         (&["check", "config.capnp"], CONFIG, 0, b"ok 2 1\n"),
+        (
+            &["check", "config.capnp"],
+            TWO_EMPTY,
+            2,
+            b"error: config SeveralConfigs at 85: b\n",
+        ),
+        (&["check", "config.capnp", "a"], TWO_EMPTY, 0, b"ok 1 0\n"),
+        (
+            &["check", "config.capnp", "z"],
+            TWO_EMPTY,
+            2,
+            b"error: config NoSuchConst at 0: z\n",
+        ),
+        (
+            &["check", "config.capnp"],
+            NOWHERE,
+            2,
+            b"error: link UnknownService main -> nowhere\n",
+        ),
         (
             &["check", "config.capnp", "none"],
             TWO_CONFIGS,
@@ -656,7 +759,7 @@ fn offline_call(alloc: Global, around: &Around<'_>) -> Result<(u8, Bytes), NoMem
     let words = words_of(alloc, around.words)?;
     let mut files = files_of(alloc, around)?;
     let mut sink = sink_of(alloc, None)?;
-    if serves(words.as_slice()) {
+    if serves(alloc, words.as_slice())? {
         return Ok((9, sink.inner.bytes));
     }
     let status = offline(alloc, words.as_slice(), &mut files, &mut sink);
@@ -683,7 +786,7 @@ fn words_that_are_no_command_line(rt: HostRuntime) -> Result<(), Fail> {
         &[],
         &["serve"],
         &["serve", "config.capnp", "--threads", "0"],
-        &["serve", "config.capnp", "--threads", "1", "more"],
+        &["serve", "config.capnp", "one", "--threads", "1", "more"],
     ];
     for words in cases {
         let around = Around {
@@ -699,7 +802,13 @@ fn words_that_are_no_command_line(rt: HostRuntime) -> Result<(), Fail> {
 
 #[test]
 fn a_refused_file_has_its_status_and_text(rt: HostRuntime) -> Result<(), Fail> {
-    let cases: [(&[u8], &[u8], u8, &[u8]); 6] = [
+    let cases: [(&[u8], &[u8], u8, &[u8]); 7] = [
+        (
+            NOWHERE,
+            HELLO,
+            2,
+            b"error: link UnknownService main -> nowhere\n",
+        ),
         (
             OTHER_CONFIG,
             HELLO,

@@ -1,17 +1,17 @@
-ghost use Rattle.std.specs.Prelude.{◌≡◌, ◌↔◌, ◌⊎◌, [], length, map, string_bytes, None, true, false, Err, IfOk, IfErr, IfSome, All};
+ghost use Rattle.std.specs.Prelude.{◌≡◌, ◌≤◌, [], length, true, false, IfOk, IfErr, IsErrAnd};
+ghost use Rattle.wd_command.specs.Command.{command, is_serve};
 ghost use Rattle.wd_graph.specs.Links.{first_unknown};
 ghost use Rattle.wd_machine.specs.declared.journal.Head.TheVariants.{Whole};
 ghost use Rattle.wd_machine.specs.First.{AreFirst};
-ghost use Rattle.wd_plan.specs.declared.command.Verb.TheVariants as VerbIs;
-ghost use Rattle.wd_plan.specs.declared.refusal.Refusal.TheVariants as RefusalIs;
-ghost use Rattle.wd_plan.specs.Command.{command, is_serve};
 ghost use Rattle.wd_plan.specs.Constant.{constant_means};
-ghost use Rattle.wd_plan.specs.Plan.{Plans, Starts};
 ghost use Rattle.wd_plan.specs.Prepare.{IsPrepared};
-ghost use Rattle.wd_ports.specs.Faults.{ReadFile, Rose, RoseIn};
+ghost use Rattle.wd_ports.specs.Faults.{ReadFile, Rose, part};
 ghost use Rattle.wd_top.specs.declared.outcome.Outcome.TheVariants as OutcomeIs;
-ghost use Rattle.wd_top.specs.Ended.{Comes, Ends, EndsOffline, Holds, IsCaused, IsEarly, IsStatus, Ran as Runs};
-ghost use Rattle.wd_top.specs.Table.{SameFiles};
+ghost use Rattle.wd_top.specs.Calls.{AskToServe, AtPorts, ForNotice, HasCause, IsShown};
+ghost use Rattle.wd_top.specs.Calls.{KeepFiles, ReportsNotice};
+ghost use Rattle.wd_top.specs.Calls.{call_offline, call_with, printed_to, spoken, the_seat};
+ghost use Rattle.wd_top.specs.Ended.{Comes, Ends, EndsOffline, IsCaused, IsEarly, IsSessionEnd, NoPortMade};
+ghost use Rattle.wd_top.specs.Ended.{Ran as Runs};
 
 use crate::board::Board;
 use crate::outcome::{Outcome, report};
@@ -19,19 +19,20 @@ use crate::session::run_ports;
 use std::alloc::Global;
 use std::sync::Wait;
 use std::thread::Threads;
-use wd_base::{NoMemory, Seq};
+use wd_base::{NoMemory, Seat, Seq};
+use wd_command::Verb;
 use wd_graph::World;
 use wd_machine::{Head, Journal};
-use wd_plan::{Constant, PlanEnd, Ready, Verb, prepare};
+use wd_plan::{Constant, PlanEnd, Ready, prepare};
 use wd_ports::{Files, Gate, Maker, Sink};
 
 /// How a call ended.
 #[derive(Drop)]
 pub struct Ended<P> {
-    /// The exit status: 0 where the session is done or the configuration was checked, 1 where the
-    /// words are no command line, 2 where the configuration is refused, 3 where a script is, 4
-    /// where the sink failed, 5 where a file is missing or a read failed, 7 where no port could be
-    /// made or one could not listen, and 9 for want of memory.
+    /// The exit status: 0 where the session is done, the configuration was checked, or help or the
+    /// version was asked for, 1 where the words are no command line, 2 where the configuration is
+    /// refused, 3 where a script is, 4 where the sink failed, 5 where a file is missing or a read
+    /// failed, 7 where no port could be made or one could not listen, and 9 for want of memory.
     pub status: u8,
     /// The journal of the session; empty where there was none.
     pub journal: Journal,
@@ -61,7 +62,6 @@ fn early(alloc: Global, outcome: Outcome) -> Ran
 }
 
 /// The session of what is ready.
-#[tactic(auto, using(crate::proofs::EndSteps::no_entries))]
 fn serve<R: Wait, M: Maker>(
     rt: &R,
     alloc: Global,
@@ -73,11 +73,14 @@ fn serve<R: Wait, M: Maker>(
     requires first { AreFirst constant_means world isolates.items }
     requires known { first_unknown world ≡ None }
     requires ports { ports.old.items ≡ [] }
-    ensures ran { Runs world (Rose (M.failures maker.old) (M.failures maker.new)) result.outcome result.journal (length ports.new.items)
-        (All (λ p. Holds world result.outcome (M.Port.Files.told p) (M.Port.Files.gone p) (M.Port.Files.faults p) result.journal.entries) ports.new.items) }
-    ensures files { All (λ p. IfSome (M.plan maker.old (record { 0 = 0 })) (λ t. SameFiles t (M.Port.Files.told p))) ports.new.items }
+    ensures ran { Runs the_seat world result.outcome result.journal (length ports.new.items)
+        (AtPorts the_seat M.Port.Files.told M.Port.Files.gone M.Port.Files.faults ports.new.items
+        result.journal.entries result.outcome world) }
+    ensures end { IsSessionEnd the_seat result.outcome }
+    ensures failed { NoPortMade result.outcome → Rose (M.failures maker.old) (M.failures maker.new) }
+    ensures files { KeepFiles the_seat M.plan maker.old M.Port.Files.told ports.new.items }
 {
-    match Board::new(alloc, world, isolates) {
+    match Board::new(alloc, Seat(0), world, isolates) {
         Err(NoMemory) => early(alloc, Outcome::NoMemory),
         Ok(board) => {
             let mut board = board;
@@ -99,11 +102,12 @@ fn checked(world: &World) -> Outcome
 #[tactic(auto, using(wd_plan::proofs::PlanLaws::serve_asked))]
 fn begin<F: Files>(alloc: Global, words: &[String], files: &mut F) -> Result<Ready, Outcome>
     ensures ready { IfOk result IsPrepared }
-    ensures asked { IfOk result (λ ready. IfSome (F.told files.old).files (λ s. Plans (map string_bytes words.now) s (Starts VerbIs.Serve ready.world))) }
-    ensures serves { IfOk result (λ ready. is_serve (command (map string_bytes words.now)) ≡ true) }
+    ensures asked { IfOk result (λ ready. AskToServe words.now (F.told files.old) ready.world) }
+    ensures serves { IfOk result (λ ready. is_serve (command (spoken words.now)) ≡ true) }
     ensures early { IfErr result IsEarly }
-    ensures caused { IfErr result (IsCaused (record { words = map string_bytes words.now; files = (F.told files.old).files; read_failed = RoseIn ReadFile (F.faults files.old) (F.faults files.new); maker_failed = ⊥ })) }
-    ensures words { (result ≡ Err (OutcomeIs.Refused RefusalIs.CommandLine)) ↔ (command (map string_bytes words.now) ≡ None) }
+    ensures caused { IfErr result (IsCaused (call_offline words.now F.told F.faults files.old files.new)) }
+    ensures words { ForNotice words.now (λ notice. IsErrAnd result (IsShown notice)) }
+    ensures later { part ReadFile (F.faults files.old) ≤ part ReadFile (F.faults files.new) }
     ensures tells { F.told files.new ≡ F.told files.old }
 {
     match prepare(alloc, words, files) {
@@ -126,11 +130,15 @@ fn run<R: Wait, F: Files, M: Maker>(
     ports: &mut Vec<M::Port>,
 ) -> Ran
     requires { ports.old.items ≡ [] }
-    ensures comes { Comes (record { words = map string_bytes words.now; files = (F.told files.old).files; read_failed = RoseIn ReadFile (F.faults files.old) (F.faults files.new); maker_failed = Rose (M.failures maker.old) (M.failures maker.new) }) result.outcome result.journal (length ports.new.items)
-        (λ world. All (λ p. Holds world result.outcome (M.Port.Files.told p) (M.Port.Files.gone p) (M.Port.Files.faults p) result.journal.entries) ports.new.items) }
-    ensures words { (result.outcome ≡ OutcomeIs.Refused RefusalIs.CommandLine) ↔ (command (map string_bytes words.now) ≡ None) }
+    ensures comes { Comes the_seat
+        (call_with words.now F.told F.faults files.old files.new M.failures maker.old maker.new
+        M.Port.Files.faults ports.new.items) result.outcome result.journal (length ports.new.items)
+        (AtPorts the_seat M.Port.Files.told M.Port.Files.gone M.Port.Files.faults ports.new.items
+        result.journal.entries result.outcome) }
+    ensures words { ForNotice words.now (λ notice. IsShown notice result.outcome) }
+    ensures later { part ReadFile (F.faults files.old) ≤ part ReadFile (F.faults files.new) }
     ensures tells { F.told files.new ≡ F.told files.old }
-    ensures files { All (λ p. IfSome (M.plan maker.old (record { 0 = 0 })) (λ t. SameFiles t (M.Port.Files.told p))) ports.new.items }
+    ensures files { KeepFiles the_seat M.plan maker.old M.Port.Files.told ports.new.items }
 {
     match begin(alloc, words, files) {
         Err(outcome) => early(alloc, outcome),
@@ -145,16 +153,20 @@ fn run<R: Wait, F: Files, M: Maker>(
 }
 
 /// Does what a command line asks for that serves nothing, without the program's own name:
-/// `check <config> [<const>]`, or a line that is refused. It reads and links the configuration,
-/// starts its scripts, and prints `ok <services> <sockets>`, or the one line of the first fault.
+/// `check <config> [<const>]`, `--help`, `--version`, or a line that is refused. For `check` it reads
+/// and links the configuration, starts its scripts, and prints `ok <services> <sockets>`, or the one
+/// line of the first fault.
 ///
 /// The answer is the exit status: 0, or as in [`Ended`]. No file is changed, and nothing is waited
 /// for.
 pub fn offline<F: Files, K: Sink>(alloc: Global, words: &[String], files: &mut F, out: &mut K) -> u8
-    requires { is_serve (command (map string_bytes words.now)) ≡ false }
-    ensures ends { EndsOffline (record { words = map string_bytes words.now; files = (F.told files.old).files; read_failed = RoseIn ReadFile (F.faults files.old) (F.faults files.new); maker_failed = ⊥ }) (record { before = K.held out.old; after = K.held out.new; failures_before = K.failures out.old; failures_after = K.failures out.new }) result }
-    ensures status { IfSome (F.told files.old).files (λ s. IsStatus (map string_bytes words.now) s (RoseIn ReadFile (F.faults files.old) (F.faults files.new)) (Rose (K.failures out.old) (K.failures out.new)) result) }
-    ensures words { command (map string_bytes words.now) ≡ None → (result ≡ 1) ⊎ (((result ≡ 4) × Rose (K.failures out.old) (K.failures out.new)) ⊎ (result ≡ 9)) }
+    requires { is_serve (command (spoken words.now)) ≡ false }
+    ensures ends { EndsOffline (call_offline words.now F.told F.faults files.old files.new)
+        (printed_to K.held K.failures out.old out.new) result }
+    ensures status { HasCause (call_offline words.now F.told F.faults files.old files.new)
+        (printed_to K.held K.failures out.old out.new) result }
+    ensures words { ForNotice words.now (ReportsNotice (printed_to K.held K.failures out.old out.new) result) }
+    ensures later { part ReadFile (F.faults files.old) ≤ part ReadFile (F.faults files.new) }
     ensures files { F.told files.new ≡ F.told files.old }
 {
     match begin(alloc, words, files) {
@@ -178,12 +190,21 @@ pub fn workerd<R: Threads + Wait + Sync, F: Files, M: Maker, K: Sink, G: Gate>(
     out: &mut K,
     _gate: &G,
 ) -> Ended<M::Port>
-    ensures ends { Ends (record { words = map string_bytes words.now; files = (F.told files.old).files; read_failed = RoseIn ReadFile (F.faults files.old) (F.faults files.new); maker_failed = Rose (M.failures maker.old) (M.failures maker.new) }) (record { before = K.held out.old; after = K.held out.new; failures_before = K.failures out.old; failures_after = K.failures out.new }) result.status result.journal (length result.ports.items)
-        (λ o world. All (λ p. Holds world o (M.Port.Files.told p) (M.Port.Files.gone p) (M.Port.Files.faults p) result.journal.entries) result.ports.items) }
-    ensures status { IfSome (F.told files.old).files (λ s. IsStatus (map string_bytes words.now) s (RoseIn ReadFile (F.faults files.old) (F.faults files.new)) (Rose (K.failures out.old) (K.failures out.new)) result.status) }
-    ensures words { command (map string_bytes words.now) ≡ None → (result.status ≡ 1) ⊎ (((result.status ≡ 4) × Rose (K.failures out.old) (K.failures out.new)) ⊎ (result.status ≡ 9)) }
+    ensures ends { Ends the_seat
+        (call_with words.now F.told F.faults files.old files.new M.failures maker.old maker.new
+        M.Port.Files.faults result.ports.items)
+        (printed_to K.held K.failures out.old out.new) result.status result.journal (length result.ports.items)
+        (AtPorts the_seat M.Port.Files.told M.Port.Files.gone M.Port.Files.faults result.ports.items
+        result.journal.entries) }
+    ensures status { HasCause
+        (call_with words.now F.told F.faults files.old files.new M.failures maker.old maker.new
+        M.Port.Files.faults result.ports.items)
+        (printed_to K.held K.failures out.old out.new) result.status }
+    ensures words { ForNotice words.now
+        (ReportsNotice (printed_to K.held K.failures out.old out.new) result.status) }
+    ensures later { part ReadFile (F.faults files.old) ≤ part ReadFile (F.faults files.new) }
     ensures files { F.told files.new ≡ F.told files.old }
-    ensures disks { All (λ p. IfSome (M.plan maker.old (record { 0 = 0 })) (λ t. SameFiles t (M.Port.Files.told p))) result.ports.items }
+    ensures disks { KeepFiles the_seat M.plan maker.old M.Port.Files.told result.ports.items }
 {
     let mut ports = Vec::new(alloc);
     let ran = run(rt, alloc, words, files, maker, &mut ports);

@@ -3,8 +3,8 @@ ghost use Rattle.wd_ports.specs.Links.{Keeps, Stays};
 ghost use Rattle.wd_ports.specs.Send.{Sends};
 ghost use Rattle.wd_top.specs.declared.seat.link.Heard.{Heard as HeardIs};
 ghost use Rattle.http_text.specs.ReplyText.{reply_text};
-ghost use Rattle.wd_top.specs.Session.{service_at, tail_text, is_head};
-ghost use Rattle.wd_top.specs.Steps.{Knows, SameButConn, Hears, Replies, Handles, NoneFell, end_of};
+ghost use Rattle.wd_top.specs.Session.{tail_text, is_head, asks_head, is_line_end};
+ghost use Rattle.wd_top.specs.Steps.{Knows, SameButConn, Hears, RepliesOn, HandlesOn, NoneFell, end_of};
 
 use crate::board::Board;
 use http_in::{Conn, Fed};
@@ -125,7 +125,7 @@ fn nothing_or_lost<P: Port>(port: &mut P, link: LinkNo) -> Heard
 }
 
 /// Sends a reply's text.
-#[tactic(auto, using(wd_ports::proofs::OneLink::sent_nothing, crate::proofs::FaultSteps::none_fell_same, crate::proofs::FaultSteps::written))]
+#[tactic(auto, using(crate::proofs::FaultSteps::none_fell_same, crate::proofs::FaultSteps::written))]
 fn send<P: Port>(
     port: &mut P,
     alloc: Global,
@@ -166,9 +166,9 @@ fn reply_to<P: Port, I: Isolate>(
     close: bool,
 ) -> StepEnd
     requires usable { P.usable port.old link }
-    requires socket { socket.0 < length board.old.0.sockets }
-    ensures replies { Replies link (service_at board.old.0.sockets socket) request close result (P.gone port.new link) (P.told port.old) (P.told port.new) board.old.1 board.new.1 }
-    ensures world { board.new.0 ≡ board.old.0 }
+    requires socket { socket.0 < length board.old.0.world.sockets }
+    ensures replies { RepliesOn P.told P.gone link port.old port.new board.old board.new socket request close result }
+    ensures fixed { board.new.0 ≡ board.old.0 }
     ensures keeps { Keeps (P.usable port.old) (P.side port.old) (P.usable port.new) (P.side port.new) }
     ensures stays { Stays (P.gone port.old) (P.gone port.new) }
     ensures faults { NoneFell (P.faults port.old) (P.faults port.new) }
@@ -184,11 +184,36 @@ fn reply_to<P: Port, I: Isolate>(
     }
 }
 
-/// Sends the text of a refusal.
-#[tactic(auto, using(wd_ports::proofs::OneLink::sent_nothing, crate::proofs::FaultSteps::none_fell_same, crate::proofs::FaultSteps::written))]
-fn refuse<P: Port>(port: &mut P, alloc: Global, link: LinkNo, code: u16) -> Result<(), Failed>
+/// CR or LF.
+fn is_line_end(byte: u8) -> bool
+    ensures { result ≡ is_line_end byte }
+{
+    byte == b'\r' || byte == b'\n'
+}
+
+/// The bytes begin a request line with the method HEAD, behind the empty lines that may stand
+/// before one (RFC 9112, sections 2.2 and 3).
+fn asks_head(bytes: &[u8]) -> bool
+    ensures { result ≡ asks_head bytes.now }
+{
+    let mut at = 0;
+    while at < bytes.len() && is_line_end(bytes[at]) {
+        at += 1;
+    }
+    bytes[at..].starts_with(b"HEAD ")
+}
+
+/// Sends the text that refuses these bytes, without its body where they ask for a head alone.
+#[tactic(auto, using(crate::proofs::FaultSteps::none_fell_same, crate::proofs::FaultSteps::written))]
+fn refuse<P: Port>(
+    port: &mut P,
+    alloc: Global,
+    link: LinkNo,
+    rest: &[u8],
+    code: u16,
+) -> Result<(), Failed>
     requires usable { P.usable port.old link }
-    ensures sends { Sends link (tail_text (Some code)) result (P.told port.old) (P.told port.new) }
+    ensures sends { Sends link (tail_text rest.now (Some code)) result (P.told port.old) (P.told port.new) }
     ensures lost { IsErrOf result Failed.Fault → P.gone port.new link }
     ensures keeps { Keeps (P.usable port.old) (P.side port.old) (P.usable port.new) (P.side port.new) }
     ensures stays { Stays (P.gone port.old) (P.gone port.new) }
@@ -196,7 +221,7 @@ fn refuse<P: Port>(port: &mut P, alloc: Global, link: LinkNo, code: u16) -> Resu
 {
     match bad_reply(alloc, code) {
         Err(NoMemory) => Err(Failed::NoMemory),
-        Ok(reply) => send(port, alloc, link, &reply, false, true),
+        Ok(reply) => send(port, alloc, link, &reply, asks_head(rest), true),
     }
 }
 
@@ -222,10 +247,10 @@ pub fn handle<P: Port, I: Isolate>(
     heard: Heard,
 ) -> StepEnd
     requires usable { P.usable port.old link }
-    requires socket { run.old.socket.0 < length board.old.0.sockets }
+    requires socket { run.old.socket.0 < length board.old.0.world.sockets }
     requires lost { heard ≡ HeardIs.Lost → P.gone port.old link }
-    ensures handles { Handles link (service_at board.old.0.sockets run.old.socket) run.old run.new heard result (P.told port.old) (P.told port.new) board.old.1 board.new.1 (P.gone port.new link) }
-    ensures world { board.new.0 ≡ board.old.0 }
+    ensures handles { HandlesOn P.told P.gone link port.old port.new board.old board.new run.old run.new heard result }
+    ensures fixed { board.new.0 ≡ board.old.0 }
     ensures keeps { Keeps (P.usable port.old) (P.side port.old) (P.usable port.new) (P.side port.new) }
     ensures stays { Stays (P.gone port.old) (P.gone port.new) }
     ensures faults { NoneFell (P.faults port.old) (P.faults port.new) }
@@ -240,7 +265,7 @@ pub fn handle<P: Port, I: Isolate>(
             reply_to(port, alloc, board, link, run.socket, request, close)
         }
         Heard::Fed(Fed::Bad(code)) => {
-            let refused = refuse(port, alloc, link, code);
+            let refused = refuse(port, alloc, link, run.conn.unread(), code);
             end_of(refused, true)
         }
         Heard::Nothing => StepEnd::Open,

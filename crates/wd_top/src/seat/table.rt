@@ -1,10 +1,11 @@
-ghost use Rattle.std.specs.Prelude.{◌≡◌, ◌≢◌, ℕ, ◌+◌, ◌<◌, ◌≤◌, ◌^◌, [], ◌∷◌, ◌++◌, length, take, drop, cond, true, OnOk, OnErr, IfOk, IfSome, IsTrue, ◌↔◌};
+ghost use Rattle.std.specs.Prelude.{◌≡◌, ◌≢◌, ◌↔◌, ℕ, ◌+◌, ◌<◌, ◌≤◌, ◌^◌, [], ◌∷◌, ◌++◌, length, take, drop, cond};
+ghost use Rattle.std.specs.Prelude.{true, OnOk, OnErr, IfOk, IfSome, IsTrue};
 ghost use Rattle.wd_ports.specs.Links.{KeepsOthers, Stays};
 ghost use Rattle.wd_top.specs.declared.seat.link.Stage.{Stage as StageIs};
 ghost use Rattle.wd_top.specs.declared.seat.table.Taken.{Taken as TakenIs};
-ghost use Rattle.wd_top.specs.Session.{service_at, Session};
-ghost use Rattle.wd_top.specs.Steps.{Moves, NoneFell};
-ghost use Rattle.wd_top.specs.Table.{Tended, Kept, SameFiles, AreWithin, Covers, keep, is_shut, run_at, new_run};
+ghost use Rattle.wd_top.specs.Session.{Session};
+ghost use Rattle.wd_top.specs.Steps.{MovesOn, NoneFell};
+ghost use Rattle.wd_top.specs.Table.{IsTableOf, Kept, SameFiles, AreWithin, Covers, keep, is_shut, run_at, new_run};
 
 use crate::board::Board;
 use crate::seat::link::{Heard, LinkRun, READ_SIZE, Stage, StepEnd, handle, hear};
@@ -34,9 +35,9 @@ fn tend_run<P: Port, I: Isolate>(
 ) -> Result<bool, NoMemory>
     requires usable { P.usable port.old link }
     requires open { run.old.stage ≡ StageIs.Open }
-    requires socket { run.old.socket.0 < length board.old.0.sockets }
-    ensures moves { Moves link (service_at board.old.0.sockets run.old.socket) run.old run.new (P.told port.old) (P.told port.new) board.old.1 board.new.1 (P.gone port.new link) }
-    ensures world { board.new.0 ≡ board.old.0 }
+    requires socket { run.old.socket.0 < length board.old.0.world.sockets }
+    ensures moves { MovesOn P.told P.gone link port.old port.new board.old board.new run.old run.new }
+    ensures fixed { board.new.0 ≡ board.old.0 }
     ensures handle { run.new.stage ≡ StageIs.Open → P.usable port.new link }
     ensures keeps { KeepsOthers link (P.usable port.old) (P.side port.old) (P.usable port.new) (P.side port.new) }
     ensures stays { Stays (P.gone port.old) (P.gone port.new) }
@@ -80,12 +81,12 @@ fn tend<P: Port, I: Isolate>(
     at: usize,
     buf: &mut [u8; READ_SIZE],
 ) -> Result<bool, NoMemory>
-    requires tended { Tended board.old.0.sockets (P.told port.old) (P.usable port.old) (P.gone port.old) board.old.1 runs.old.items }
+    requires tended { IsTableOf P.told P.usable P.gone port.old board.old runs.old.items }
     requires found { at < length runs.old.items }
     requires small { length runs.old.items < 2 ^ 32 }
-    ensures tended { Tended board.new.0.sockets (P.told port.new) (P.usable port.new) (P.gone port.new) board.new.1 runs.new.items }
+    ensures tended { IsTableOf P.told P.usable P.gone port.new board.new runs.new.items }
     ensures same { length runs.new.items ≡ length runs.old.items }
-    ensures world { board.new.0 ≡ board.old.0 }
+    ensures fixed { board.new.0 ≡ board.old.0 }
     ensures kept { Kept (P.told port.old) (P.told port.new) }
     ensures others { (i : ℕ) → i ≢ at → run_at runs.new.items i ≡ run_at runs.old.items i }
     ensures faults { NoneFell (P.faults port.old) (P.faults port.new) }
@@ -107,13 +108,13 @@ fn tend_listed<P: Port, I: Isolate>(
     live: &[usize],
     buf: &mut [u8; READ_SIZE],
 ) -> Result<bool, NoMemory>
-    requires tended { Tended board.old.0.sockets (P.told port.old) (P.usable port.old) (P.gone port.old) board.old.1 runs.old.items }
+    requires tended { IsTableOf P.told P.usable P.gone port.old board.old runs.old.items }
     requires small { length runs.old.items < 2 ^ 32 }
     requires within { AreWithin live.now (length runs.old.items) }
     requires covers { Covers live.now runs.old.items }
-    ensures tended { Tended board.new.0.sockets (P.told port.new) (P.usable port.new) (P.gone port.new) board.new.1 runs.new.items }
+    ensures tended { IsTableOf P.told P.usable P.gone port.new board.new runs.new.items }
     ensures same { length runs.new.items ≡ length runs.old.items }
-    ensures world { board.new.0 ≡ board.old.0 }
+    ensures fixed { board.new.0 ≡ board.old.0 }
     ensures kept { Kept (P.told port.old) (P.told port.new) }
     ensures covers { OnOk result (Covers live.now runs.new.items) }
     ensures faults { NoneFell (P.faults port.old) (P.faults port.new) }
@@ -193,13 +194,13 @@ pub fn tend_all<P: Port, I: Isolate>(
     live: &mut Vec<usize>,
     buf: &mut [u8; READ_SIZE],
 ) -> Result<bool, NoMemory>
-    requires tended { Tended board.old.0.sockets (P.told port.old) (P.usable port.old) (P.gone port.old) board.old.1 runs.old.items }
+    requires tended { IsTableOf P.told P.usable P.gone port.old board.old runs.old.items }
     requires small { length runs.old.items < 2 ^ 32 }
     requires within { AreWithin live.old.items (length runs.old.items) }
     requires covers { Covers live.old.items runs.old.items }
-    ensures tended { Tended board.new.0.sockets (P.told port.new) (P.usable port.new) (P.gone port.new) board.new.1 runs.new.items }
+    ensures tended { IsTableOf P.told P.usable P.gone port.new board.new runs.new.items }
     ensures same { length runs.new.items ≡ length runs.old.items }
-    ensures world { board.new.0 ≡ board.old.0 }
+    ensures fixed { board.new.0 ≡ board.old.0 }
     ensures kept { Kept (P.told port.old) (P.told port.new) }
     ensures within { OnOk result (AreWithin live.new.items (length runs.new.items)) }
     ensures covers { OnOk result (Covers live.new.items runs.new.items) }
@@ -263,14 +264,15 @@ pub fn take_link<P: Port, I: Isolate>(
     runs: &mut Vec<LinkRun>,
     live: &mut Vec<usize>,
 ) -> Result<Taken, NoMemory>
-    requires tended { Tended board.now.0.sockets (P.told port.old) (P.usable port.old) (P.gone port.old) board.now.1 runs.old.items }
-    requires sockets { length (P.told port.old).sockets ≡ length board.now.0.sockets }
+    requires tended { IsTableOf P.told P.usable P.gone port.old board.now runs.old.items }
+    requires sockets { length (P.told port.old).sockets ≡ length board.now.0.world.sockets }
     requires small { length runs.old.items < 2 ^ 32 }
     requires within { AreWithin live.old.items (length runs.old.items) }
     requires covers { Covers live.old.items runs.old.items }
-    ensures tended { OnOk result (Tended board.now.0.sockets (P.told port.new) (P.usable port.new) (P.gone port.new) board.now.1 runs.new.items) }
+    ensures tended { OnOk result (IsTableOf P.told P.usable P.gone port.new board.now runs.new.items) }
     ensures small { OnOk result (length runs.new.items < 2 ^ 32) }
-    ensures session { OnErr result (IfSome (P.told port.new).links (Session board.now.0.sockets board.now.1)) }
+    ensures session { OnErr result (IfSome (P.told port.new).links
+        (Session board.now.0.seat board.now.0.world.sockets board.now.1)) }
     ensures sockets { (P.told port.new).sockets ≡ (P.told port.old).sockets }
     ensures files { SameFiles (P.told port.old) (P.told port.new) }
     ensures closed { IfOk result (λ taken. taken ≡ TakenIs.Closed → (P.told port.new).closed ≡ true) }

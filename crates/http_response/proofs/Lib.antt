@@ -1,0 +1,4 @@
+pub mod HeadLaws
+pub mod ResponseLaws
+pub mod HeadSteps
+pub mod ResponseSteps
