@@ -4,8 +4,8 @@ use Rattle.std.proofs.Common.{OnOk, OnErr, IfOk, ◌≡◌, ℕ, zero, suc, ◌+
 use Rattle.std.proofs.Common.{flat_map, get_or, refl, ap, sym, ◌∙◌, subst, arith, Bool, true, false, not, ◌&&◌}
 use Rattle.std.proofs.Common.{if◌then◌else◌, Option, Some, None, inl, inr, Result, Ok, Err, cond}
 use Rattle.std.proofs.lemmas.Bool.{false≢true}
-use Rattle.std.specs.Prelude.{is_some, is_none, IsErr}
-use Rattle.std.specs.List.{find, list_any, position_from}
+use Rattle.std.specs.Prelude.{is_some, IsErr}
+use Rattle.std.specs.List.{find, list_any}
 use Rattle.wd_base.specs.declared.config.Config.{Config}
 use Rattle.wd_base.specs.declared.config.Service.{Service}
 use Rattle.wd_base.specs.declared.config.Socket.{Socket}
@@ -24,53 +24,38 @@ use Rattle.wd_machine.specs.declared.journal.Entry.{Entry}
 use Rattle.wd_machine.specs.declared.journal.Entry.TheVariants.{Arrive, Begin, Turn}
 use Rattle.wd_machine.specs.declared.journal.Head.TheVariants.{Whole}
 use Rattle.wd_machine.specs.declared.state.State.{State}
+use Rattle.wd_machine.specs.declared.state.Terms.{Terms}
 use Rattle.wd_machine.specs.declared.state.WorkerState.{WorkerState}
 use Rattle.wd_machine.specs.declared.turn.Out.{Out}
-use Rattle.wd_machine.specs.Found.{is_worker, worker_of, request_of, worker_for, ArePlaces}
-use Rattle.wd_machine.specs.Meaning.{Meaning}
-use Rattle.wd_machine.specs.Rules.{broken_in, is_open}
-use Rattle.wd_machine.specs.First.{first_state, first_isolate, started_worker, first_worker, workers_among, add}
-use Rattle.wd_machine.specs.Runs.{legal_from, after, after_from}
-use Rattle.wd_machine.specs.Steps.{step, begun, turned, turn_out}
-use Rattle.wd_top.specs.declared.board.Answer.{Answer}
-use Rattle.wd_top.specs.Board.{IsFinished, AreEnded, AreIdle, IsOver, has_ended, reply_in, IsRun, Rests, Stands, Ends}
 use Rattle.wd_machine.specs.Entries.{seat_of}
+use Rattle.wd_machine.specs.First.{first_state, first_isolate, started_worker, first_worker, workers_among, add}
+use Rattle.wd_machine.specs.Found.{request_of, worker_of, has_ended}
+use Rattle.wd_machine.specs.Meaning.{Meaning}
+use Rattle.wd_machine.specs.Quiet.{WorksAlone}
+use Rattle.wd_machine.specs.Rules.{AreTerms, broken}
+use Rattle.wd_machine.specs.Runs.{after}
+use Rattle.wd_machine.specs.Steps.{begun, turned, entry_out, turn_gives}
+use Rattle.wd_machine.proofs.RunLemmas.{after-push, IsLegal-push}
+use Rattle.wd_top.specs.declared.board.Answer.{Answer}
+use Rattle.wd_top.specs.Board.{AreFree, IsFinished, AreEnded, AreIdle, IsOver, reply_in, IsRun, Rests, Stands, Ends, with_arrival}
 use Rattle.wd_top.specs.Talk.{talk, asked_row, add_row, with_reply, with_reply_if, IsNumbered, arrival_count, IsOfSeat}
 use Rattle.wd_top.specs.Session.{service_at, no_socket}
 use Rattle.wd_top.specs.Steps.{Others, Answers}
 use Rattle.wd_top.proofs.TalkSteps.{HasNext, talk_push, count_push, numbered_push, seat_push, below, reply_none}
 use Rattle.wd_top.proofs.TalkSteps.{reply_last, nat_self, nat_other}
-use Rattle.wd_top.proofs.MachineSteps.{after_arrival, rests_arrived, while_turn, out_of, arrive_allowed, begin_allowed}
-use Rattle.wd_top.proofs.MachineSteps.{turn_allowed, rests_turned, begins, turn_out_is, found_place, turn_places}
-use Rattle.wd_top.proofs.MachineSteps.{turned_places, turned_ended}
+use Rattle.wd_top.proofs.MachineSteps.{come, turning, run_of, arrives, begins, gives, arrive_allowed, begin_allowed}
+use Rattle.wd_top.proofs.MachineSteps.{end_allowed, rests_arrived, turn_behind, rests_behind, ended_behind, free_first}
 
 -- ONE ENTRY MORE
 
-after_from_push : {I : Type 0} (m : Meaning I) (s : State I) (es : List Entry) (e : Entry)
-    → after_from m s (es ++ e ∷ []) ≡ step m (after_from m s es) e
-after_from_push m s [] e = refl
-after_from_push m s (x ∷ es) e = after_from_push m (step m s x) es e
-
-both : (a b : Bool) → (a && b) ≡ true → (a ≡ true) × (b ≡ true)
-both true b e = (refl, e)
-both false b e = absurd (false≢true e)
-
-legal_from_push : {I : Type 0} (m : Meaning I) (opens : List ℕ → Bool) (world : Config) (s : State I) (es : List Entry)
-    (e : Entry) → legal_from m true opens world s es ≡ true → broken_in true opens world (after_from m s es) e ≡ None
-    → legal_from m true opens world s (es ++ e ∷ []) ≡ true
-legal_from_push m opens world s [] e l b = rw b refl
-legal_from_push m opens world s (x ∷ es) e l b =
-    let h = both (is_none (broken_in true opens world s x)) (legal_from m true opens world (step m s x) es) l in
-    rw h.0 (legal_from_push m opens world (step m s x) es e h.1 b)
-
 -- an entry of the seat that is allowed goes behind the others
 run_push : {I : Type 0} (seat : Seat) (m : Meaning I) (world : Config) (es : List Entry) (e : Entry) (s : State I)
-    → IsRun seat m world es
-    → s ≡ after m world es → broken_in true (is_open world Whole) world s e ≡ None → HasNext (arrival_count es) e
+    → IsRun seat m world es → s ≡ after m world es
+    → ((terms : Terms) → AreTerms world Whole terms → broken m world terms s e ≡ None) → HasNext (arrival_count es) e
     → (seat_of e).0 ≡ seat.0 → IsRun seat m world (es ++ e ∷ [])
-run_push seat m world es e s r is b next here = record {
-  allowed = legal_from_push m (is_open world Whole) world (first_state m world) es e r.allowed
-      (subst (λ x. broken_in true (is_open world Whole) world x e ≡ None) is b);
+run_push seat m world es e s r is allowed next here = record {
+  allowed = IsLegal-push m world Whole es e r.allowed
+      (λ terms are. subst (λ t. broken m world terms t e ≡ None) is (allowed terms are));
   numbered = numbered_push es e r.numbered next;
   of_seat = seat_push seat.0 es e r.of_seat here;
 }
@@ -177,89 +162,148 @@ answers seat q service link request j out numbered next =
 
 -- RUNS
 
-pub run_arrived : {I : Type 0} (m : Meaning I) (world : Config) (s : State I) (j : List Entry) (n : ℕ) (seat : Seat)
-    (q : Req)
-    (service : List ℕ) (link : LinkNo) (request : ReqData) → IsRun seat m world j → Stands m world s j n → q.0 ≡ n + 1
-    → is_some (service_of service world.services) ≡ true → is_public world service ≡ true
-    → seat.0 < 64 → IsRun seat m world (j ++ arrive_entry seat q service link request ∷ [])
-run_arrived m world s j n seat q service link request r x e known open_ below =
-    run_push seat m world j (arrive_entry seat q service link request) s r x.state
-    (arrive_allowed world s n seat q service link request x.rests e known open_ below) (e ∙ ap (λ k. k + 1) x.count)
-    refl
+some_of : {X : Type 0} (o : Option X) → is_some o ≡ true → (x : X) × (o ≡ Some x)
+some_of None e = absurd (false≢true e)
+some_of (Some x) e = (x, refl)
 
--- after the arrival
-pub state_arrived : {I : Type 0} (m : Meaning I) (world : Config) (s : State I) (j : List Entry) (n : ℕ) (seat : Seat)
-    (q : Req)
-    (service : List ℕ) (link : LinkNo) (request : ReqData) → Stands m world s j n
-    → after_arrival s seat q service link request ≡ after m world (j ++ arrive_entry seat q service link request ∷ [])
-state_arrived m world s j n seat q service link request x =
-    ap (λ t. after_arrival t seat q service link request) x.state
-    ∙ sym (after_from_push m (first_state m world) j (arrive_entry seat q service link request))
+none_of : {X : Type 0} (o : Option X) → is_some o ≡ false → o ≡ None
+none_of None e = refl
+none_of (Some x) e = absurd (false≢true (sym e))
 
-pub run_begun : {I : Type 0} (m : Meaning I) (world : Config) (s : State I) (j : List Entry) (n : ℕ) (seat : Seat)
-    (q : Req)
-    (service : List ℕ) (link : LinkNo) (request : ReqData) (w : WorkerState I)
-    → IsRun seat m world (j ++ arrive_entry seat q service link request ∷ []) → Stands m world s j n → q.0 ≡ n + 1
-    → worker_of service s.workers ≡ Some w → seat.0 < 64
-    → IsRun seat m world (two_entries j seat q service link request)
-run_begun m world s j n seat q service link request w r x e found below =
-    run_push seat m world (j ++ arrive_entry seat q service link request ∷ []) (Begin seat q)
-    (after_arrival s seat q service link request) r (state_arrived m world s j n seat q service link request x)
-    (begin_allowed world s n seat q service link request w x.rests e found below) tt refl
+-- what is known when the turn has ended, or memory ran out in it
+pub record Exchanged {I : Type 0} (seat : Seat) (m : Meaning I) (world : Config) (link : LinkNo) (service : List ℕ)
+    (request : ReqData) (j j3 : List Entry) (s s3 : State I) (q : Req) (result : Result (Option Reply) NoMemory) :
+    Type 0 where
+  pub answers : Answers seat link service request j j3 result
+  pub run : IsRun seat m world j3
+  pub stands : OnOk result (Stands m world s3 j3 q.0)
+  pub ended : OnOk result (has_ended (request_of q.0 s3.requests) ≡ true → AreEnded s.requests → AreEnded s3.requests)
 
-pub state_begun : {I : Type 0} (m : Meaning I) (world : Config) (s : State I) (j : List Entry) (n : ℕ) (seat : Seat)
-    (q : Req)
-    (service : List ℕ) (link : LinkNo) (request : ReqData) (w : WorkerState I) → Stands m world s j n → q.0 ≡ n + 1
-    → worker_of service s.workers ≡ Some w → while_turn m s seat q service link request w
-    ≡ after m world (two_entries j seat q service link request)
-state_begun m world s j n seat q service link request w x e found =
-    sym (begins m s n seat q service link request w x.rests e found)
-    ∙ ap (λ t. begun m t seat q) (state_arrived m world s j n seat q service link request x)
-    ∙ sym (after_from_push m (first_state m world) (j ++ arrive_entry seat q service link request ∷ []) (Begin seat q))
+-- a request that comes to a board at rest
+pub record Comes {I : Type 0} (m : Meaning I) (world : Config) (s : State I) (j : List Entry) (n : ℕ) (seat : Seat)
+    (q : Req) (service : List ℕ) : Type 0 where
+  pub run : IsRun seat m world j
+  pub stands : Stands m world s j n
+  pub next : q.0 ≡ n + 1
+  pub known : is_some (service_of service world.services) ≡ true
+  pub public : is_public world service ≡ true
+  pub below : seat.0 < 64
+  pub alone : WorksAlone m
 
-pub run_turned : {I : Type 0} (m : Meaning I) (world : Config) (s : State I) (j : List Entry) (n : ℕ) (seat : Seat)
-    (q : Req)
-    (service : List ℕ) (link : LinkNo) (request : ReqData) (w : WorkerState I)
-    → IsRun seat m world (two_entries j seat q service link request) → Stands m world s j n → q.0 ≡ n + 1
-    → worker_of service s.workers ≡ Some w → seat.0 < 64
-    → IsRun seat m world (three_entries j seat q service link request (out_of m seat q service link request w))
-run_turned m world s j n seat q service link request w r x e found below =
-    run_push seat m world (two_entries j seat q service link request)
-    (Turn seat q (out_of m seat q service link request w))
-    (while_turn m s seat q service link request w) r (state_begun m world s j n seat q service link request w x e found)
-    (turn_allowed m world s n seat q service link request w x.rests e found below) tt refl
+module _ {I : Type 0} (m : Meaning I) (world : Config) (s : State I) (j : List Entry) (n : ℕ) (seat : Seat) (q : Req)
+    (service : List ℕ) (link : LinkNo) (request : ReqData) (c : Comes m world s j n seat q service) where
+  one : List Entry
+  one = j ++ arrive_entry seat q service link request ∷ []
 
-count_arrived : (j : List Entry) (seat : Seat) (q : Req) (service : List ℕ) (link : LinkNo) (request : ReqData)
-    → arrival_count (j ++ arrive_entry seat q service link request ∷ []) ≡ arrival_count j + 1
-count_arrived j seat q service link request = count_push j (arrive_entry seat q service link request)
+  two : List Entry
+  two = two_entries j seat q service link request
 
-pub stands_arrived : {I : Type 0} (m : Meaning I) (world : Config) (s : State I) (j : List Entry) (n : ℕ) (seat : Seat)
-    (q : Req)
-    (service : List ℕ) (link : LinkNo) (request : ReqData) → Stands m world s j n → q.0 ≡ n + 1
-    → position_from (is_worker service) 0 s.workers ≡ None
-    → Stands m world (after_arrival s seat q service link request) (j ++ arrive_entry seat q service link request ∷ [])
-    q.0
-stands_arrived m world s j n seat q service link request x e none = record {
-  state = state_arrived m world s j n seat q service link request x;
-  rests = rests_arrived s n seat q service link request x.rests e none;
-  count = e ∙ ap (λ k. k + 1) x.count ∙ sym (count_arrived j seat q service link request);
-}
+  pub run_arrived : IsRun seat m world one
+  run_arrived = run_push seat m world j (arrive_entry seat q service link request) s c.run c.stands.state
+      (λ terms are. arrive_allowed s n q c.stands.rests c.next seat c.below service link request m world terms are c.known
+      c.public) (c.next ∙ ap (λ k. k + 1) c.stands.count) refl
 
-pub stands_turned : {I : Type 0} (m : Meaning I) (world : Config) (s : State I) (j : List Entry) (n : ℕ) (seat : Seat)
-    (q : Req)
-    (service : List ℕ) (link : LinkNo) (request : ReqData) (w : WorkerState I) (out : Out) → Stands m world s j n
-    → q.0 ≡ n + 1 → worker_of service s.workers ≡ Some w
-    → Stands m world (turned (while_turn m s seat q service link request w) seat q)
-    (three_entries j seat q service link request out) q.0
-stands_turned m world s j n seat q service link request w out x e found = record {
-  state = ap (λ t. turned t seat q) (state_begun m world s j n seat q service link request w x e found)
-      ∙ sym (after_from_push m (first_state m world) (two_entries j seat q service link request) (Turn seat q out));
-  rests = rests_turned m s n seat q service link request w x.rests e found;
-  count = let zero_more : (k : ℕ) → k + 0 ≡ k = λ k. omega arith in
-      e ∙ ap (λ k. k + 1) x.count ∙ sym (count_push (two_entries j seat q service link request) (Turn seat q out)
-      ∙ zero_more _ ∙ count_push (j ++ arrive_entry seat q service link request ∷ []) (Begin seat q) ∙ zero_more _
-      ∙ count_arrived j seat q service link request);
-}
+  -- after the arrival
+  state_arrived : come s seat q service link request ≡ after m world one
+  state_arrived = sym (arrives s n q c.stands.rests c.next seat c.below service link request)
+      ∙ ap (λ t. with_arrival t seat q service link request) c.stands.state
+      ∙ sym (after-push m world j (arrive_entry seat q service link request))
+
+  count_arrived : q.0 ≡ arrival_count one
+  count_arrived = c.next ∙ ap (λ k. k + 1) c.stands.count
+      ∙ sym (count_push j (arrive_entry seat q service link request))
+
+  -- the service is no Worker
+  pub stands_arrived : is_some (worker_of service s.workers) ≡ false
+      → Stands m world (with_arrival s seat q service link request) one q.0
+  stands_arrived none =
+      let is : with_arrival s seat q service link request ≡ come s seat q service link request =
+          arrives s n q c.stands.rests c.next seat c.below service link request in
+      record {
+        state = is ∙ state_arrived;
+        rests = subst (λ t. Rests t q.0) (sym is)
+            (rests_arrived s n q c.stands.rests c.next seat c.below service link request
+            (none_of (worker_of service s.workers) none));
+        count = count_arrived;
+      }
+
+  module _ (w : WorkerState I) (found : worker_of service s.workers ≡ Some w) where
+    run_begun : IsRun seat m world two
+    run_begun = run_push seat m world one (Begin seat q) (come s seat q service link request) run_arrived state_arrived
+        (λ terms are. begin_allowed s n q c.stands.rests c.next seat c.below service link request m w found world terms)
+        tt refl
+
+    while_runs : begun m seat q (with_arrival s seat q service link request) ≡ turning m s seat q service link request w
+    while_runs = ap (begun m seat q) (arrives s n q c.stands.rests c.next seat c.below service link request)
+        ∙ begins s n q c.stands.rests c.next seat c.below service link request m w found
+
+    state_begun : turning m s seat q service link request w ≡ after m world two
+    state_begun = sym (begins s n q c.stands.rests c.next seat c.below service link request m w found)
+        ∙ ap (begun m seat q) state_arrived ∙ sym (after-push m world one (Begin seat q))
+
+    out_of : Out
+    out_of = entry_out (run_of m seat q service link request w)
+        (turning m s seat q service link request w).requests (turning m s seat q service link request w).workers
+
+    three : List Entry
+    three = three_entries j seat q service link request out_of
+
+    run_turned : IsRun seat m world three
+    run_turned = run_push seat m world two (Turn seat q out_of) (turning m s seat q service link request w) run_begun
+        state_begun
+        (λ terms are. end_allowed s n q c.stands.rests c.next seat c.below service link request m w found world terms)
+        tt refl
+
+    stands_turned : Stands m world (turned seat (turning m s seat q service link request w)) three q.0
+    stands_turned =
+        let zero_more : (k : ℕ) → k + 0 ≡ k = λ k. omega arith in
+        record {
+          state = ap (turned seat) state_begun ∙ sym (after-push m world two (Turn seat q out_of));
+          rests = rests_behind s n q c.stands.rests c.next seat c.below service link request
+              (turned seat (turning m s seat q service link request w))
+              (turn_behind s n q c.stands.rests c.next seat c.below service link request m w found c.alone);
+          count = count_arrived ∙ sym (count_push two (Turn seat q out_of) ∙ zero_more _
+              ∙ count_push one (Begin seat q) ∙ zero_more _);
+        }
+
+    exchanged_by : (s2 s3 : State I) (j2 j3 : List Entry) (result : Result (Option Reply) NoMemory)
+        → s2 ≡ begun m seat q (with_arrival s seat q service link request) → j2 ≡ two
+        → OnOk result (s3 ≡ turned seat s2)
+        → IfOk result (λ reply. Ends seat q (turn_gives seat.0 s2) j2 j3 reply) → OnErr result (j3 ≡ j2)
+        → Exchanged seat m world link service request j j3 s s3 q result
+    exchanged_by s2 s3 j2 j3 (Err x) is2 ij2 is3 ends err =
+        subst (λ k. Exchanged seat m world link service request j k s s3 q (Err x)) (sym (err ∙ ij2))
+        (record { answers = asks_begun x seat q service link request j; run = run_begun; stands = tt; ended = tt })
+    exchanged_by s2 s3 j2 j3 (Ok reply) is2 ij2 is3 ends err =
+        let now : s2 ≡ turning m s seat q service link request w = is2 ∙ while_runs in
+        let gave : turn_gives seat.0 s2 ≡ Some out_of = ap (turn_gives seat.0) now
+            ∙ gives s n q c.stands.rests c.next seat c.below service link request m w found in
+        let over : Ends seat q (Some out_of) j2 j3 reply = subst (λ o. Ends seat q o j2 j3 reply) gave ends in
+        let whole : j3 ≡ three = over.0 ∙ ap (λ k. k ++ Turn seat q out_of ∷ []) ij2 in
+        let then : s3 ≡ turned seat (turning m s seat q service link request w) = is3 ∙ ap (turned seat) now in
+        let behind = turn_behind s n q c.stands.rests c.next seat c.below service link request m w found c.alone in
+        subst (λ k. Exchanged seat m world link service request j k s s3 q (Ok reply)) (sym whole)
+        (record {
+          answers = subst (λ o. Answers seat link service request j three (Ok o)) (sym over.1)
+              (answers seat q service link request j out_of c.run.numbered (c.next ∙ ap (λ k. k + 1) c.stands.count));
+          run = run_turned;
+          stands = subst (λ t. Stands m world t three q.0) (sym then) stands_turned;
+          ended = λ has all. subst (λ t. AreEnded t.requests) (sym then)
+              (ended_behind s n q c.stands.rests c.next seat c.below service link request
+              (turned seat (turning m s seat q service link request w)) behind
+              (subst (λ t. has_ended (request_of q.0 t.requests) ≡ true) then has) all);
+        })
+
+  -- the request's turn was made at its Worker, and has ended unless memory ran out
+  pub exchanged : (s2 s3 : State I) (j2 j3 : List Entry) (result : Result (Option Reply) NoMemory)
+      → is_some (worker_of service s.workers) ≡ true
+      → s2 ≡ begun m seat q (with_arrival s seat q service link request) → j2 ≡ two
+      → OnOk result (s3 ≡ turned seat s2)
+      → IfOk result (λ reply. Ends seat q (turn_gives seat.0 s2) j2 j3 reply) → OnErr result (j3 ≡ j2)
+      → Exchanged seat m world link service request j j3 s s3 q result
+  exchanged s2 s3 j2 j3 result there is2 ij2 is3 ends err =
+      let w = some_of (worker_of service s.workers) there in
+      exchanged_by w.0 w.1 s2 s3 j2 j3 result is2 ij2 is3 ends err
 
 -- THE SERVICES OF SOCKETS
 
@@ -326,82 +370,6 @@ pub asked_only : (seat : Seat) (q : Req) (service : List ℕ) (link : LinkNo) (r
 asked_only seat q service link request j =
     (arrived_others seat q service link request j, (q.0, arrived_adds seat q service link request j))
 
--- THE STEPS OF A REQUEST, BY THE PLACE OF ITS WORKER
-
-pub begun_run : {I : Type 0} (m : Meaning I) (world : Config) (s : State I) (j : List Entry) (n : ℕ) (seat : Seat)
-    (q : Req)
-    (service : List ℕ) (link : LinkNo) (request : ReqData) (place : ℕ)
-    → IsRun seat m world (j ++ arrive_entry seat q service link request ∷ []) → Stands m world s j n → q.0 ≡ n + 1
-    → position_from (is_worker service) 0 s.workers ≡ Some place → seat.0 < 64
-    → IsRun seat m world (two_entries j seat q service link request)
-begun_run m world s j n seat q service link request place r x e found below =
-    let w = found_place (is_worker service) s.workers 0 place found in
-    run_begun m world s j n seat q service link request w.0 r x e w.1 below
-
-pub places_begun : {I : Type 0} (m : Meaning I) (s s2 : State I) (n : ℕ) (seat : Seat) (q : Req) (service : List ℕ)
-    (link : LinkNo)
-    (request : ReqData) (place : ℕ) → Rests s n → q.0 ≡ n + 1 → position_from (is_worker service) 0 s.workers
-    ≡ Some place → s2 ≡ begun m (after_arrival s seat q service link request) seat q
-    → ArePlaces s2.workers s2.requests (record { req = q; row = Some n; worker = Some place })
-places_begun m s s2 n seat q service link request place r e found is =
-    let w = found_place (is_worker service) s.workers 0 place found in
-    subst (λ t. ArePlaces t.workers t.requests (record { req = q; row = Some n; worker = Some place }))
-    (sym (is ∙ begins m s n seat q service link request w.0 r e w.1))
-    (turn_places m s n seat q service link request w.0 place r e found)
-
--- what is known when the turn has ended, or memory ran out in it
-pub record Exchanged {I : Type 0} (seat : Seat) (m : Meaning I) (world : Config) (link : LinkNo) (service : List ℕ)
-    (request : ReqData) (j j3 : List Entry) (s3 : State I) (q : ℕ) (result : Result (Option Reply) NoMemory) :
-    Type 0 where
-  pub answers : Answers seat link service request j j3 result
-  pub run : IsRun seat m world j3
-  pub stands : OnOk result (Stands m world s3 j3 q)
-
-pub exchanged : {I : Type 0} (m : Meaning I) (world : Config) (s s2 s3 : State I) (j j2 j3 : List Entry) (n : ℕ)
-    (seat : Seat) (q : Req) (service : List ℕ) (link : LinkNo) (request : ReqData) (place : ℕ)
-    (result : Result (Option Reply) NoMemory)
-    → IsNumbered j → IsRun seat m world (j ++ arrive_entry seat q service link request ∷ []) → Stands m world s j n
-    → q.0 ≡ n + 1
-    → position_from (is_worker service) 0 s.workers ≡ Some place
-    → s2 ≡ begun m (after_arrival s seat q service link request) seat q → j2 ≡ two_entries j seat q service link request
-    → OnOk result (s3 ≡ turned s2 seat q)
-    → IfOk result (λ reply. Ends seat q
-    (turn_out (request_of q.0 s2.requests) (worker_for (request_of q.0 s2.requests) s2.workers)) j2 j3 reply)
-    → OnErr result (j3 ≡ j2)
-    → seat.0 < 64 → Exchanged seat m world link service request j j3 s3 q.0 result
-exchanged m world s s2 s3 j j2 j3 n seat q service link request place (Err x) numbered r st e found is2 ij2 is3 ends err
-    below =
-    subst (λ k. Exchanged seat m world link service request j k s3 q.0 (Err x)) (sym (err ∙ ij2))
-    (record {
-      answers = asks_begun x seat q service link request j;
-      run = begun_run m world s j n seat q service link request place r st e found below;
-      stands = tt;
-    })
-exchanged m world s s2 s3 j j2 j3 n seat q service link request place (Ok reply) numbered r st e found is2 ij2 is3 ends
-    err below =
-    let w = found_place (is_worker service) s.workers 0 place found in
-    let out : Out = out_of m seat q service link request w.0 in
-    let now : s2 ≡ while_turn m s seat q service link request w.0 = is2
-    ∙ begins m s n seat q service link request w.0 st.rests e w.1 in
-    let gives : turn_out (request_of q.0 s2.requests) (worker_for (request_of q.0 s2.requests) s2.workers) ≡ Some out =
-    ap (λ t. turn_out (request_of q.0 t.requests) (worker_for (request_of q.0 t.requests) t.workers)) now
-    ∙ turn_out_is m s n seat q service link request w.0 st.rests e w.1 in
-    let ended : Ends seat q (Some out) j2 j3 reply = subst (λ o. Ends seat q o j2 j3 reply) gives ends in
-    let whole : j3 ≡ three_entries j seat q service link request out = ended.0
-    ∙ ap (λ k. k ++ Turn seat q out ∷ []) ij2 in
-    let two : IsRun seat m world (two_entries j seat q service link request) =
-    run_begun m world s j n seat q service link request w.0 r st e w.1 below in
-    subst (λ k. Exchanged seat m world link service request j k s3 q.0 (Ok reply)) (sym whole)
-    (record {
-      answers = subst (λ o. Answers seat link service request j (three_entries j seat q service link request out)
-          (Ok o))
-          (sym ended.1) (answers seat q service link request j out numbered (e ∙ ap (λ k. k + 1) st.count));
-      run = run_turned m world s j n seat q service link request w.0 two st e w.1 below;
-      stands = subst (λ t. Stands m world t (three_entries j seat q service link request out) q.0)
-          (sym (is3 ∙ ap (λ t. turned t seat q) now))
-          (stands_turned m world s j n seat q service link request w.0 out st e w.1);
-    })
-
 -- memory ran out
 pub unanswered : (seat : Seat) (link : LinkNo) (service : List ℕ) (request : ReqData) (j j2 : List Entry)
     (result : Result Answer NoMemory) → IsErr result → ((x : NoMemory) → Answers seat link service request j j2 (Err x))
@@ -409,41 +377,12 @@ pub unanswered : (seat : Seat) (link : LinkNo) (service : List ℕ) (request : R
 unanswered seat link service request j j2 (Ok answer) e asked = absurd (false≢true e)
 unanswered seat link service request j j2 (Err x) e asked = asked x
 
--- WHETHER EACH REQUEST HAS ENDED
-
-pub places_turned : {I : Type 0} (m : Meaning I) (s s2 s3 : State I) (n : ℕ) (seat : Seat) (q : Req) (service : List ℕ)
-    (link : LinkNo) (request : ReqData) (place : ℕ) → Rests s n → q.0 ≡ n + 1
-    → position_from (is_worker service) 0 s.workers ≡ Some place
-    → s2 ≡ begun m (after_arrival s seat q service link request) seat q → s3 ≡ turned s2 seat q
-    → ArePlaces s3.workers s3.requests (record { req = q; row = Some n; worker = Some place })
-places_turned m s s2 s3 n seat q service link request place r e found is2 is3 =
-    let w = found_place (is_worker service) s.workers 0 place found in
-    let now : s2 ≡ while_turn m s seat q service link request w.0 = is2
-    ∙ begins m s n seat q service link request w.0 r e w.1 in
-    subst (λ t. ArePlaces t.workers t.requests (record { req = q; row = Some n; worker = Some place }))
-    (sym (is3 ∙ ap (λ t. turned t seat q) now))
-    (turned_places m s n seat q service link request w.0 place r e found)
-
-pub ended_too : {I : Type 0} (m : Meaning I) (s s2 s3 : State I) (n : ℕ) (seat : Seat) (q : Req) (service : List ℕ)
-    (link : LinkNo)
-    (request : ReqData) (place : ℕ) → Rests s n → q.0 ≡ n + 1 → position_from (is_worker service) 0 s.workers
-    ≡ Some place → s2 ≡ begun m (after_arrival s seat q service link request) seat q → s3 ≡ turned s2 seat q
-    → has_ended (request_of q.0 s3.requests) ≡ true → AreEnded s.requests → AreEnded s3.requests
-ended_too m s s2 s3 n seat q service link request place r e found is2 is3 over all =
-    let w = found_place (is_worker service) s.workers 0 place found in
-    let now : s3 ≡ turned (while_turn m s seat q service link request w.0) seat q = is3
-    ∙ ap (λ t. turned t seat q) (is2 ∙ begins m s n seat q service link request w.0 r e w.1) in
-    subst (λ t. AreEnded t.requests) (sym now)
-    (turned_ended m s n seat q service link request w.0 r e
-    (subst (λ t. has_ended (request_of q.0 t.requests) ≡ true) now over) all)
-
 -- the state is that after the entries, and at rest: where each request has ended, nothing is left to do
 pub over_after : {I : Type 0} (m : Meaning I) (world : Config) (s : State I) (j : List Entry) (n : ℕ)
     → Stands m world s j n → AreEnded s.requests → IsOver m world j
 over_after m world s j n st all = subst IsFinished st.state (record {
   ended = all;
-  running = st.rests.running;
-  due = st.rests.due;
+  seats = subst AreFree (sym st.rests.seats) free_first;
   idle = st.rests.idle;
 })
 
@@ -463,7 +402,7 @@ idle_first m world (s ∷ rest) = idle_add m world s.name (worker_in s.kind) (wo
 
 pub first_run : {I : Type 0} (seat : Seat) (m : Meaning I) (world : Config) → IsRun seat m world []
 unfolding IsNumbered IsOfSeat
-first_run seat m world = record { allowed = refl; numbered = tt; of_seat = tt }
+first_run seat m world = record { allowed = λ terms are. refl; numbered = tt; of_seat = tt }
 
 pub first_stands : {I : Type 0} (m : Meaning I) (world : Config) → Stands m world (first_state m world) [] 0
 unfolding arrival_count
@@ -472,8 +411,8 @@ first_stands m world = record {
   rests = record {
     rows = tt;
     count = refl;
-    running = refl;
-    due = refl;
+    outer = refl;
+    seats = refl;
     idle = idle_first m world.services world.services;
   };
   count = refl;

@@ -16,7 +16,7 @@ use Rattle.wd_machine.specs.declared.journal.Entry.{Entry}
 use Rattle.wd_machine.specs.declared.journal.Head.TheVariants.{Whole}
 use Rattle.wd_machine.specs.declared.journal.Journal.{Journal}
 use Rattle.wd_machine.specs.Meaning.{Meaning}
-use Rattle.wd_machine.specs.Runs.{legal}
+use Rattle.wd_machine.specs.Runs.{IsLegal}
 use Rattle.wd_plan.specs.declared.ready.PlanEnd.{PlanEnd}
 use Rattle.wd_plan.specs.declared.ready.PlanEnd.TheVariants as end
 use Rattle.wd_plan.specs.declared.ready.Ready.{Ready}
@@ -40,6 +40,7 @@ use Rattle.wd_top.specs.Ended.{IsEmpty, Ran, Comes, status_for, IsStatus}
 use Rattle.wd_top.specs.Outcome.{status_of, Reports}
 use Rattle.wd_top.specs.Talk.{NumberedFrom, IsNumbered, EachOfSeat, IsOfSeat}
 use Rattle.wd_top.proofs.BoardSteps.{idle_first}
+use Rattle.wd_top.proofs.MachineSteps.{free_first}
 
 -- a world of nothing
 abbrev pub no_world : Config
@@ -64,8 +65,7 @@ pub nothing_over : {I : Type 0} (m : Meaning I) (world : Config) (entries : List
     → IsOver m world entries
 nothing_over m world entries e = subst (λ es. IsOver m world es) (sym e) (record {
   ended = tt;
-  running = refl;
-  due = refl;
+  seats = free_first;
   idle = idle_first m world.services world.services;
 })
 
@@ -176,7 +176,7 @@ early_ran seat world o journal ports at_ports early empty no_ports at =
     let entries : journal.entries ≡ [] = ap (λ j. j.entries) empty in
     record {
       whole = ap (λ j. j.head) empty;
-      run = subst (λ j. legal constant_means world j ≡ true) (sym empty) refl;
+      run = subst (λ j. IsLegal constant_means world j) (sym empty) (λ terms are. refl);
       numbered = no_numbers journal.entries entries;
       of_seat = no_entries seat journal.entries entries;
       over = λ is. nothing_over constant_means world journal.entries entries;

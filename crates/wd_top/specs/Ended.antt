@@ -10,7 +10,7 @@ use Rattle.wd_command.specs.Command.{shows, wish}
 use Rattle.wd_machine.specs.declared.journal.Entry.{Entry}
 use Rattle.wd_machine.specs.declared.journal.Head.TheVariants.{Whole}
 use Rattle.wd_machine.specs.declared.journal.Journal.{Journal}
-use Rattle.wd_machine.specs.Runs.{legal}
+use Rattle.wd_machine.specs.Runs.{IsLegal}
 use Rattle.wd_plan.specs.declared.refusal.Refusal.{Refusal}
 use Rattle.wd_plan.specs.declared.refusal.Refusal.TheVariants as refusal
 use Rattle.wd_plan.specs.Constant.{constant_means}
@@ -164,7 +164,7 @@ IsEmpty journal ports = (journal.entries ≡ []) × (ports ≡ 0)
 pub record Ran (seat : Seat) (world : Config) (o : Outcome) (journal : Journal) (ports : ℕ) (at_ports : Type 0) :
     Type 0 where
   pub whole : journal.head ≡ Whole
-  pub run : legal constant_means world journal ≡ true
+  pub run : IsLegal constant_means world journal
   pub numbered : IsNumbered journal.entries
   pub of_seat : IsOfSeat seat.0 journal.entries
   pub over : o ≡ outcome.Done → IsOver constant_means world journal.entries

@@ -1,16 +1,14 @@
 ghost use Rattle.std.specs.Prelude.{◌≡◌, ℕ, ◌+◌, ◌<◌, [], ◌∷◌, ◌++◌, length, true, false, None, Some};
 ghost use Rattle.std.specs.Prelude.{IfOk, OnOk, OnErr, IsTrue, is_some};
-ghost use Rattle.std.specs.List.{position_from};
 ghost use Rattle.wd_graph.specs.Links.{first_unknown};
 ghost use Rattle.wd_graph.specs.Names.{service_of, is_public};
 ghost use Rattle.wd_machine.specs.declared.journal.Entry.{Entry as EntryIs};
 ghost use Rattle.wd_machine.specs.declared.journal.Head.{Head as HeadIs};
 ghost use Rattle.wd_machine.specs.First.{AreFirst};
-ghost use Rattle.wd_machine.specs.Found.{ArePlaces, is_worker, request_of};
-ghost use Rattle.wd_machine.specs.Runs.{legal};
-ghost use Rattle.wd_machine.specs.Steps.{begun, turned};
-ghost use Rattle.wd_top.specs.Board.{IsRun, Stands, Ends, IsOver, EndsToo, has_ended, reply_in};
-ghost use Rattle.wd_top.specs.Board.{arrival, out_of, with_arrival};
+ghost use Rattle.wd_machine.specs.Quiet.{WorksAlone};
+ghost use Rattle.wd_machine.specs.Runs.{IsLegal};
+ghost use Rattle.wd_machine.specs.Steps.{begun, turned, turn_gives};
+ghost use Rattle.wd_top.specs.Board.{IsRun, Stands, Ends, IsOver, EndsToo, arrival, reply_in, with_arrival};
 ghost use Rattle.wd_top.specs.Session.{service_at};
 ghost use Rattle.wd_top.specs.Steps.{Answers, AnswersOn};
 
@@ -20,7 +18,7 @@ use wd_base::{
     Bytes, LinkNo, NoMemory, Origin, Reply, Req, ReqData, Seat, SockNo, Sockets, TryClone,
 };
 use wd_graph::World;
-use wd_machine::{Entries, Entry, Head, Isolate, Journal, Machine, Places};
+use wd_machine::{Entries, Entry, Head, Isolate, Journal, Machine};
 
 /// How many subrequests a request from outside may make.
 const ALLOWANCE: u32 = 1000;
@@ -30,8 +28,8 @@ const ALLOWANCE: u32 = 1000;
 /// Contracts see it as its world and its seat, which never change, and its entries, which are at any
 /// time a legal journal. After want of memory it takes no further request.
 ///
-/// The requests are numbered 1, 2, 3 and so on. The newest is found at once, at the last place of
-/// the machine's table; neither the table nor the journal is searched.
+/// The requests are numbered 1, 2, 3 and so on. The isolates' turns leave nothing for others to do,
+/// so that each request is answered by one turn, and the machine is at rest between two requests.
 #[derive(Drop)]
 pub struct Board<I: Isolate> {
     world: World,
@@ -73,19 +71,17 @@ fn service_of(alloc: Global, world: &World, socket: SockNo) -> Result<Bytes, NoM
         .try_clone(alloc)
 }
 
-/// A request arrives over a link of a seat; `worker` is the place of the service's Worker.
+/// A request arrives over a link of a seat.
 fn arrive<I>(
     alloc: Global,
     machine: &mut Machine<I>,
     entries: &mut Entries,
-    worker: Option<usize>,
     seat: Seat,
     req: Req,
     service: &Bytes,
     link: LinkNo,
     request: ReqData,
 ) -> Result<(), NoMemory>
-    requires { position_from (is_worker service.now) 0 machine.old.workers ≡ worker }
     ensures state { OnOk result (machine.new ≡ with_arrival machine.old seat req service.now link request) }
     ensures entries { OnOk result (entries.new ≡ entries.old ++ arrival seat req service.now link request ∷ []) }
     ensures err { OnErr result (entries.new ≡ entries.old) }
@@ -100,7 +96,6 @@ fn arrive<I>(
     };
     let service = service.try_clone(alloc)?;
     machine.arrive(
-        worker,
         seat,
         req,
         service,
@@ -116,54 +111,35 @@ fn begin<I: Isolate>(
     machine: &mut Machine<I>,
     entries: &mut Entries,
     seat: Seat,
-    places: Places,
+    req: Req,
 ) -> Result<(), NoMemory>
-    requires { ArePlaces machine.old.workers machine.old.requests places }
-    ensures state { OnOk result (machine.new ≡ begun I.means machine.old seat places.req) }
-    ensures entries { OnOk result (entries.new ≡ entries.old ++ EntryIs.Begin seat places.req ∷ []) }
+    ensures state { OnOk result (machine.new ≡ begun I.means seat req machine.old) }
+    ensures entries { OnOk result (entries.new ≡ entries.old ++ EntryIs.Begin seat req ∷ []) }
     ensures err { OnErr result (entries.new ≡ entries.old) }
 {
-    machine.begin(places, seat)?;
-    entries.push(Entry::Begin {
-        seat,
-        req: places.req,
-    })
+    machine.begin(seat, req)?;
+    entries.push(Entry::Begin { seat, req })
 }
 
-/// The turn of a request ends. It gives the request's reply, where the turn gave one.
+/// The turn that the seat runs of a request ends. It gives the request's reply, where the turn gave
+/// one.
 fn finish<I: Isolate>(
     alloc: Global,
     machine: &mut Machine<I>,
     entries: &mut Entries,
     seat: Seat,
-    places: Places,
+    req: Req,
 ) -> Result<Option<Reply>, NoMemory>
-    requires { ArePlaces machine.old.workers machine.old.requests places }
-    ensures state { OnOk result (machine.new ≡ turned machine.old seat places.req) }
-    ensures entries { IfOk result (Ends seat places.req (out_of machine.old places.req) entries.old entries.new) }
+    ensures state { OnOk result (machine.new ≡ turned seat machine.old) }
+    ensures entries { IfOk result (Ends seat req (turn_gives seat.0 machine.old) entries.old entries.new) }
     ensures err { OnErr result (entries.new ≡ entries.old) }
 {
-    let Some(out) = machine.turn(places, seat)? else {
+    let Some(out) = machine.turn(seat)? else {
         return Ok(None);
     };
     let reply = out.reply.try_clone(alloc)?;
-    entries.push(Entry::Turn {
-        seat,
-        req: places.req,
-        out,
-    })?;
+    entries.push(Entry::Turn { seat, req, out })?;
     Ok(reply)
-}
-
-/// Whether a request has ended.
-fn has_ended<I>(machine: &Machine<I>, places: Places) -> bool
-    requires { ArePlaces machine.now.workers machine.now.requests places }
-    ensures { result ≡ has_ended (request_of places.req.0 machine.now.requests) }
-{
-    match machine.request(places) {
-        Some(row) => row.ended,
-        None => false,
-    }
 }
 
 /// A request, from its arrival to the end of its turn. A service that is no Worker gives no reply.
@@ -179,6 +155,7 @@ fn exchange<I: Isolate>(
     request: ReqData,
 ) -> Result<Answer, NoMemory>
     requires below { seat.0 < 64 }
+    requires alone { WorksAlone I.means }
     requires run { IsRun seat I.means world.now entries.old }
     requires stands { Stands I.means world.now machine.old entries.old count }
     requires known { is_some (service_of service.now world.now.services) ≡ true }
@@ -190,30 +167,26 @@ fn exchange<I: Isolate>(
     ensures ended { EndsToo result machine.old.requests machine.new.requests }
 {
     let req = Req(count + 1);
-    let worker = machine.worker_place(service.as_slice());
+    let at_worker = machine.has_worker(service.as_slice());
     arrive(
-        alloc, machine, entries, worker, seat, req, service, link, request,
+        alloc, machine, entries, seat, req, service, link, request,
     )?;
-    let Some(place) = worker else {
+    if !at_worker {
         return Ok(Answer {
             reply: None,
             ended: false,
         });
-    };
-    let places = Places {
-        req,
-        row: Some(count as usize),
-        worker: Some(place),
-    };
-    begin(machine, entries, seat, places)?;
-    let reply = finish(alloc, machine, entries, seat, places)?;
-    let ended = has_ended(machine, places);
+    }
+    begin(machine, entries, seat, req)?;
+    let reply = finish(alloc, machine, entries, seat, req)?;
+    let ended = machine.has_ended(req);
     Ok(Answer { reply, ended })
 }
 
 impl<I: Isolate + Drop> Board<I> {
     /// An empty journal of a seat, of which a server has 64 at most. `isolates` has the first isolate
-    /// of each Worker of the world, in order, and every name in the world is that of a service.
+    /// of each Worker of the world, in order, and every name in the world is that of a service. The
+    /// isolates' turns leave nothing for others to do.
     pub fn new(
         alloc: Global,
         seat: Seat,
@@ -221,6 +194,7 @@ impl<I: Isolate + Drop> Board<I> {
         isolates: Vec<I>,
     ) -> Result<Board<I>, NoMemory>
         requires below { seat.0 < 64 }
+        requires alone { WorksAlone I.means }
         requires first { AreFirst I.means world isolates.items }
         requires known { first_unknown world ≡ None }
         ensures { IfOk result (λ board. board ≡ (record { world = world; seat = seat }, [])) }
@@ -241,7 +215,7 @@ impl<I: Isolate + Drop> Board<I> {
     pub fn into_journal(self) -> Journal
         ensures entries { result.entries ≡ self.1 }
         ensures head { result.head ≡ HeadIs.Whole }
-        ensures legal { IsTrue (legal I.means self.0.world result) }
+        ensures legal { IsLegal I.means self.0.world result }
         ensures run { IsRun self.0.seat I.means self.0.world self.1 }
     {
         let Board { entries, .. } = self;
