@@ -8,4 +8,5 @@ returns-clause-status g c = status_is _ _ _ _ _ _ _ c.in-Err.ensures.caused c.re
 
 pub returns-clause-words : goal.returns-clause-words
 returns-clause-words g c =
-    reports_notice (wish (spoken c.args.words.now)) _ _ _ _ _ c.in-Err.outcome c.in-Err.ensures.words c.report.ensures.reports
+    reports_notice (wish (spoken c.args.words.now)) _ _ _ _ _ c.in-Err.outcome c.in-Err.ensures.words
+    c.report.ensures.reports

@@ -9,4 +9,5 @@ returns-clause-status g c = let comes = c.run-ran.ensures.comes in
 
 pub returns-clause-words : goal.returns-clause-words
 returns-clause-words g c =
-    reports_notice (wish (spoken c.args.words.now)) _ _ _ _ _ c.run-ran.result.outcome c.run-ran.ensures.words c.report-status.ensures.reports
+    reports_notice (wish (spoken c.args.words.now)) _ _ _ _ _ c.run-ran.result.outcome c.run-ran.ensures.words
+    c.report-status.ensures.reports
