@@ -1,7 +1,7 @@
 -- What an operation makes of values, and what it then does to a script's heap.
-use Rattle.std.specs.Prelude.{◌≡◌, ℕ, ◌+◌, List, [], ◌∷◌, ◌++◌, length, map, sum_by, zip, Option, Some, None, Result}
+use Rattle.std.specs.Prelude.{◌≡◌, ℕ, ◌+◌, List, [], ◌∷◌, ◌++◌, length, map, sum_by, Option, Some, None, Result}
 use Rattle.std.specs.Prelude.{Ok, Err, ℤ, pos, if◌then◌else◌}
-use Rattle.std.specs.List.{range_with_len}
+use Rattle.std.specs.List.{range_with_len, enumerate_from}
 use Rattle.js_arena.specs.declared.value.CellNo.{CellNo}
 use Rattle.js_arena.specs.declared.value.Cell.{Cell}
 use Rattle.js_arena.specs.declared.value.Cell.TheVariants as cell
@@ -79,22 +79,21 @@ texts_in texts h =
     let first = length h.cells in
     cells_in (text_cells first texts) (value.Cell (no (first + length texts))) h
 
--- an array of two, the first of them under this number
-abbrev pub pair_cell : Value × Value → Cell
-pair_cell p = cell.Array (p.0 ∷ p.1 ∷ [])
+-- an array of two: the string under a number and a value
+abbrev pub entry_cell : ℕ × Value → Cell
+entry_cell p = cell.Array (value.Text (no p.0) ∷ p.1 ∷ [])
 
 -- cells of new strings, then those of arrays of a string and its value, then that of an array of these arrays
 abbrev pub entry_cells : ℕ → List (List ℕ) → List Value → List Cell
 entry_cells first texts values =
-    let n = length texts in
-    map cell.Text texts ++ map pair_cell (zip (strings_from first n) values)
-    ++ cell.Array (arrays_from (first + n) n) ∷ []
+    map cell.Text texts ++ map entry_cell (enumerate_from first values)
+    ++ cell.Array (arrays_from (first + length texts) (length values)) ∷ []
 
 -- a new array of new arrays, each of a new string and the value beside it
 abbrev pub entries_in : List (List ℕ) → List Value → Heap → Heap × Result Value OpEnd
 entries_in texts values h =
     let first = length h.cells in
-    cells_in (entry_cells first texts values) (value.Cell (no (first + length texts + length texts))) h
+    cells_in (entry_cells first texts values) (value.Cell (no (first + length texts + length values))) h
 
 -- the heap with what was made, and the value or why there is none
 abbrev pub made_in : Made → Heap → Heap × Result Value OpEnd

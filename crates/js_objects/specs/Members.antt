@@ -175,7 +175,7 @@ write_object at key v h =
 -- nothing but an index is written
 abbrev pub write_array : CellNo → ℕ → Option ℕ → Value → Heap → Heap × Result (Unit {0}) OpEnd
 write_array at len (Some i) v h =
-    if nat_lt i len then written 0 (with_item_at at i v h) h
+    if nat_lt i len then (with_item_at at i v h, Ok tt)
     else (if i == len then written 2 (with_item at v h) h else unwritten kind.RangeError msg.ArrayGap h)
 write_array at len None v h = unwritten kind.TypeError msg.BadProperty h
 
