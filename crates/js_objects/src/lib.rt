@@ -1,11 +1,19 @@
-//! The members of values, the own keys of objects, and the built-in functions on values that need no frames.
+//! The members of values, the own keys of objects, and what an operation makes in a script's heap.
 #![tactic(auto)]
 
+mod arguments;
 mod errors;
 mod made;
 mod members;
 mod names;
+mod own;
+mod writes;
 
+pub use arguments::{argument, cell_of};
 pub use errors::{kind_name, message_text};
-pub use made::{Made, bad_argument, counted, made_in, of_fault};
+pub use made::{
+    Made, bad_argument, counted, made_in, number_made, of_fault, safe_count, text_made,
+};
 pub use members::read_member;
+pub use own::{object_entries, object_keys, object_values};
+pub use writes::write_member;

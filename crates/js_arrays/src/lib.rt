@@ -1,0 +1,13 @@
+//! The members of arrays that call no function, and the built-in functions that convert a value or ask for its kind.
+#![tactic(auto)]
+
+mod arrays;
+mod globals;
+mod places;
+
+pub use arrays::{
+    array_concat, array_includes, array_index_of, array_join, array_pop, array_push, array_slice,
+    found_made, place_made,
+};
+pub use globals::{is_array, number_value, string_value};
+pub use places::{behind, clamped_or, part, relative_or, up_to};

@@ -1,0 +1,6 @@
+//! The members of strings that are called.
+#![tactic(auto)]
+
+mod strings;
+
+pub use strings::string_call;
