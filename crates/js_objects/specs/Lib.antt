@@ -2,4 +2,3 @@ pub mod Arguments
 pub mod Errors
 pub mod Made
 pub mod Members
-pub mod OwnKeys

@@ -1,4 +1,4 @@
-//! The members of values, the own keys of objects, and what an operation makes in a script's heap.
+//! The members of values, and what an operation makes in a script's heap.
 #![tactic(auto)]
 
 mod arguments;
@@ -6,7 +6,6 @@ mod errors;
 mod made;
 mod members;
 mod names;
-mod own;
 mod writes;
 
 pub use arguments::{argument, cell_of};
@@ -15,5 +14,4 @@ pub use made::{
     Made, bad_argument, counted, made_in, number_made, of_fault, safe_count, text_made,
 };
 pub use members::read_member;
-pub use own::{object_entries, object_keys, object_values};
 pub use writes::write_member;

@@ -14,8 +14,8 @@ use Rattle.js_objects.specs.declared.made.Made.{Made}
 use Rattle.js_objects.specs.declared.made.Made.TheVariants.{Gives, Text, Texts}
 use Rattle.js_objects.specs.Arguments.{argument}
 use Rattle.js_objects.specs.Made.{bad_argument, of_fault, made_in}
-use Rattle.js_arrays.specs.Arrays.{place_made, found_made}
-use Rattle.js_arrays.specs.Places.{relative, clamped, number_or, of_places}
+use Rattle.js_builtins.specs.Arrays.{place_made, found_made}
+use Rattle.js_builtins.specs.Places.{relative, clamped, number_or, of_places}
 
 -- the text has the other one at this place
 abbrev pub has_at : List ℕ → List ℕ → ℕ → Bool

@@ -4,13 +4,13 @@ ghost use Rattle.std.specs.List.{range_with_len, starts_with, ends_with, prefix_
 ghost use Rattle.js_arena.specs.Heap.{text_of};
 ghost use Rattle.js_ops.specs.Ops.{Ops};
 ghost use Rattle.js_objects.specs.Arguments.{argument};
-ghost use Rattle.js_arrays.specs.Arrays.{place_made, found_made};
+ghost use Rattle.js_builtins.specs.Arrays.{place_made, found_made};
 ghost use Rattle.js_strings.specs.Strings.{has_at, place_in, code_or, code_at, bool_made, of_search, place_or, sliced};
 ghost use Rattle.js_strings.specs.Strings.{is_space, without_front, trimmed, pieces, split_at, to_uint32, limited};
 ghost use Rattle.js_strings.specs.Strings.{split_made, call_made, call_or, string_call_of};
 
 use js_arena::{Arena, OpEnd, StringCall, Value};
-use js_arrays::{behind, clamped_or, found_made, part, place_made, relative_or, up_to};
+use js_builtins::{behind, clamped_or, found_made, part, place_made, relative_or, up_to};
 use js_objects::{Made, argument, bad_argument, made_in, of_fault};
 use js_ops::Fault;
 use std::alloc::Global;

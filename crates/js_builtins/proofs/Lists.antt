@@ -5,7 +5,7 @@ use Rattle.js_arena.specs.declared.value.Value.{Value}
 use Rattle.js_arena.specs.Heap.{Heap}
 use Rattle.js_ops.specs.declared.kinds.Fault.{Fault}
 use Rattle.js_ops.specs.Compare.{of_both}
-use Rattle.js_arrays.specs.Arrays.{item_text, item_texts}
+use Rattle.js_builtins.specs.Arrays.{item_text, item_texts}
 
 -- texts in front of others, and a fault as it is
 abbrev pub behind_texts : List (List ℕ) → Result (List (List ℕ)) Fault → Result (List (List ℕ)) Fault

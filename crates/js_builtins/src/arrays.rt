@@ -7,11 +7,11 @@ ghost use Rattle.js_ops.specs.Compare.{identical};
 ghost use Rattle.js_ops.specs.Numbers.{safe};
 ghost use Rattle.js_ops.specs.Ops.{Ops};
 ghost use Rattle.js_objects.specs.Arguments.{argument, cell_of};
-ghost use Rattle.js_arrays.specs.Places.{of_items, of_places, number_or, relative};
-ghost use Rattle.js_arrays.specs.Arrays.{slice_items, spread, concat_items, place_of, place_made, found_made, searched};
-ghost use Rattle.js_arrays.specs.Arrays.{search_items, separator_or, item_text, item_texts, joined, join_or, join_items};
-ghost use Rattle.js_arrays.specs.Arrays.{pushed, push_to, array_push_of, pop_from, array_pop_of, array_slice_of};
-ghost use Rattle.js_arrays.specs.Arrays.{array_concat_of, array_index_of, array_includes_of, array_join_of};
+ghost use Rattle.js_builtins.specs.Places.{of_items, of_places, number_or, relative};
+ghost use Rattle.js_builtins.specs.Arrays.{slice_items, spread, concat_items, place_of, place_made, found_made, searched};
+ghost use Rattle.js_builtins.specs.Arrays.{search_items, separator_or, item_text, item_texts, joined, join_or, join_items};
+ghost use Rattle.js_builtins.specs.Arrays.{pushed, push_to, array_push_of, pop_from, array_pop_of, array_slice_of};
+ghost use Rattle.js_builtins.specs.Arrays.{array_concat_of, array_index_of, array_includes_of, array_join_of};
 
 use crate::places::{behind, part, relative_or};
 use js_arena::{Arena, ArenaEnd, Cell, CellNo, ErrKind, Msg, OpEnd, Value};

@@ -3,7 +3,7 @@ ghost use Rattle.js_arena.specs.Heap.{is_array, text_of};
 ghost use Rattle.std.specs.Option.{option_copied};
 ghost use Rattle.js_ops.specs.Ops.{Ops};
 ghost use Rattle.js_objects.specs.Arguments.{cell_of};
-ghost use Rattle.js_arrays.specs.Globals.{is_array_of, string_or, string_made, string_of, number_of_args, number_of};
+ghost use Rattle.js_builtins.specs.Globals.{is_array_of, string_or, string_made, string_of, number_of_args, number_of};
 
 use js_arena::{Arena, Cell, OpEnd, Value};
 use js_objects::{Made, argument, cell_of, made_in, number_made, text_made};

@@ -1,6 +1,6 @@
 use Rattle.std.proofs.Common.{◌≡◌}
-use Rattle.js_objects.specs.OwnKeys.{index_keys}
-use Rattle.js_objects.proofs.own.index_keys.Given as goal
+use Rattle.js_builtins.specs.OwnKeys.{index_keys}
+use Rattle.js_builtins.proofs.own.index_keys.Given as goal
 
 -- the keys so far
 abbrev pub invariant-loop-index : goal.invariant-loop-index

@@ -20,7 +20,7 @@ use Rattle.js_objects.specs.declared.made.Made.{Made}
 use Rattle.js_objects.specs.declared.made.Made.TheVariants.{Gives, Array}
 use Rattle.js_objects.specs.Arguments.{argument, cell_of}
 use Rattle.js_objects.specs.Made.{bad_argument, counted, text_made, made_in}
-use Rattle.js_arrays.specs.Places.{of_items, relative, number_or, of_places}
+use Rattle.js_builtins.specs.Places.{of_items, relative, number_or, of_places}
 
 -- Array.prototype.slice (section 23.1.3.28): the items from one place up to another
 abbrev pub slice_items : Value → Value → List Value → Made

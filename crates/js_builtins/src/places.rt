@@ -1,5 +1,5 @@
 ghost use Rattle.std.specs.Prelude.{◌≡◌, ℕ, ℤ, slice_range, take, drop};
-ghost use Rattle.js_arrays.specs.Places.{relative, clamped, number_or};
+ghost use Rattle.js_builtins.specs.Places.{relative, clamped, number_or};
 
 use js_arena::Value;
 

@@ -4,12 +4,11 @@ ghost use Rattle.std.specs.Option.{option_copied};
 ghost use Rattle.js_arena.specs.Keys.{own_keys};
 ghost use Rattle.js_arena.specs.Props.{get_prop};
 ghost use Rattle.js_ops.specs.Ops.{Ops};
-ghost use Rattle.js_objects.specs.OwnKeys.{object_values, index_keys, keys_made, values_made, entries_made};
-ghost use Rattle.js_objects.specs.OwnKeys.{object_keys_of, object_values_of, object_entries_of};
+ghost use Rattle.js_builtins.specs.OwnKeys.{object_values, index_keys, keys_made, values_made, entries_made};
+ghost use Rattle.js_builtins.specs.OwnKeys.{object_keys_of, object_values_of, object_entries_of};
 
-use crate::arguments::{argument, cell_of};
-use crate::made::{Made, bad_argument, made_in};
 use js_arena::{Arena, Cell, OpEnd, Props, Value};
+use js_objects::{Made, argument, bad_argument, cell_of, made_in};
 use js_ops::widened;
 use std::alloc::Global;
 use wd_base::{NoMemory, Seq, Units};

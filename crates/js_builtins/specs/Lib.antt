@@ -1,3 +1,4 @@
 pub mod Arrays
 pub mod Globals
+pub mod OwnKeys
 pub mod Places

@@ -1,6 +1,6 @@
 use Rattle.std.proofs.Common.{◌≡◌, ◌++◌, drop}
 use Rattle.std.specs.Prelude.{flat_map}
-use Rattle.js_arrays.proofs.arrays.joined_from.Given as goal
+use Rattle.js_builtins.proofs.arrays.joined_from.Given as goal
 
 -- the text so far and the texts that are left, each behind a separator
 abbrev pub invariant-loop-text : goal.invariant-loop-text
