@@ -94,20 +94,34 @@ with_holder h room page marks fs at array Open = Refuses Loop
 with_holder h room page marks fs at array (Done from to) =
     Goes (walk_of (put room (part from to page.text) page) marks fs)
 
+-- the state behind what stands before an array or an object in another one
+abbrev pub with_head : ℕ → Page → List Mark → Frame → List Frame → Option (List ℕ) → List Entry → Walk
+with_head room page marks f fs key rest =
+    walk_of (put room (head f.more key) page) marks (with_rest f true rest ∷ fs)
+
+-- an array or an object in another one, by what is known of its cell
+abbrev pub holder_step : Heap → ℕ → Walk → CellNo → Bool → Step
+holder_step h room w at array = with_holder h room w.page w.marks w.frames at array (mark_at at w.marks)
+
 -- an entry, by what its value is
-abbrev pub with_entry : Heap → ℕ → Page → List Mark → Frame → List Frame → Entry → List Entry → Shape → Step
-with_entry h room page marks f fs e rest (shape.Flat t) =
-    Goes (with_flat room page marks f fs rest (entry_text e.key t))
-with_entry h room page marks f fs e rest (shape.Array at) =
-    with_holder h room (put room (head f.more e.key) page) marks (with_rest f true rest ∷ fs) at true (mark_at at marks)
-with_entry h room page marks f fs e rest (shape.Object at) =
-    with_holder h room (put room (head f.more e.key) page) marks (with_rest f true rest ∷ fs) at false (mark_at at marks)
-with_entry h room page marks f fs e rest shape.NotConvertible = Refuses NotConvertible
+abbrev pub with_entry : Heap → ℕ → Page → List Mark → Frame → List Frame → Option (List ℕ) → List Entry → Shape → Step
+with_entry h room page marks f fs key rest (shape.Flat t) =
+    Goes (with_flat room page marks f fs rest (entry_text key t))
+with_entry h room page marks f fs key rest (shape.Array at) =
+    holder_step h room (with_head room page marks f fs key rest) at true
+with_entry h room page marks f fs key rest (shape.Object at) =
+    holder_step h room (with_head room page marks f fs key rest) at false
+with_entry h room page marks f fs key rest shape.NotConvertible = Refuses NotConvertible
+
+-- the next entry of the innermost
+abbrev pub entry_step : Heap → ℕ → Walk → Frame → Entry → List Entry → Step
+entry_step h room w f e rest =
+    with_entry h room w.page w.marks f w.frames e.key rest (shape_of e.value h)
 
 -- the next entry of the innermost, or its end
 abbrev pub in_frame : Heap → ℕ → Page → List Mark → Frame → List Frame → List Entry → Step
 in_frame h room page marks f fs [] = Goes (closed room page marks f fs)
-in_frame h room page marks f fs (e ∷ rest) = with_entry h room page marks f fs e rest (shape_of e.value h)
+in_frame h room page marks f fs (e ∷ rest) = entry_step h room (walk_of page marks fs) f e rest
 
 -- a step, by what is being written
 abbrev pub step_in : Heap → ℕ → Page → List Mark → List Frame → Step

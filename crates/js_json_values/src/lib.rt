@@ -9,4 +9,6 @@ mod lexer;
 mod number;
 mod parse;
 mod quote;
+mod shape;
 mod units;
+mod walk;
