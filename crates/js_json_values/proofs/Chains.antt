@@ -10,8 +10,8 @@ use Rattle.js_json_values.specs.declared.kinds.Frame.{Frame}
 use Rattle.js_json_values.specs.declared.kinds.Refusal.{Refusal}
 use Rattle.js_json_values.specs.declared.kinds.Refusal.TheVariants.{Loop}
 use Rattle.js_json_values.specs.Text.{Said, says, before, entries_text, between, entries_at, shape_of, said}
-use Rattle.js_json_values.specs.Walk.{open_unit, close_unit}
-use Rattle.js_json_values.proofs.Said.{Rest, before_nil, holder, holder_said, followed, Near, near_exact, near_later, near_then}
+use Rattle.js_json_values.specs.Walk.{holder, open_unit, close_unit}
+use Rattle.js_json_values.proofs.Said.{Rest, before_nil, holder_said, followed, Near, near_exact, near_later, near_then}
 use Rattle.js_json_values.proofs.Said.{near_followed, near_closed}
 
 -- an array or an object that is being written, behind what stands before it: w is what was written of its entries, and

@@ -21,7 +21,7 @@ use Rattle.js_json_values.specs.declared.kinds.Shape.TheVariants as shape
 use Rattle.js_json_values.specs.Quote.{quoted}
 use Rattle.js_json_values.specs.Text.{Said, says, comma, before, said_then, entries_text, between, entries_at}
 use Rattle.js_json_values.specs.Text.{cell_shape, native_shape, shape_or, shape_of, shape_said, said}
-use Rattle.js_json_values.specs.Walk.{open_unit, close_unit, head}
+use Rattle.js_json_values.specs.Walk.{holder, open_unit, close_unit, head}
 
 -- the text of entries, or a refusal
 abbrev pub Rest : Type 0
@@ -40,11 +40,6 @@ before_twice a b (Ok t) = ap ok (sym (append_assoc a b t))
 before_twice a b (Err why) = refl
 
 -- ---- arrays and objects
-
--- the array or the object in a cell
-abbrev pub holder : Bool → CellNo → Shape
-holder true at = shape.Array at
-holder false at = shape.Object at
 
 pub holder_said : (h : Heap) (k : ℕ) (v : Value) (b : Bool) (at : CellNo) → shape_of v h ≡ holder b at
     → said (suc k) h v ≡ between (open_unit b) (close_unit b) (entries_text (said k h) false (entries_at at h))

@@ -22,9 +22,9 @@ use Rattle.js_json_values.specs.declared.kinds.Step.{Step}
 use Rattle.js_json_values.specs.declared.kinds.Step.TheVariants.{Goes, Refuses, Ended}
 use Rattle.js_json_values.specs.Text.{Said, says, comma, before, said_then, entry_then, entry_text, entries_text, entries_at}
 use Rattle.js_json_values.specs.Text.{cell_shape, shape_of, shape_said, said}
-use Rattle.js_json_values.specs.Walk.{put, part, with_rest, frame_of, open_unit, close_unit, or_unseen, mark_at, with_mark, head}
+use Rattle.js_json_values.specs.Walk.{holder, put, part, with_rest, frame_of, open_unit, close_unit, or_unseen, mark_at, with_mark, head}
 use Rattle.js_json_values.specs.Walk.{walk_of, closed, with_flat, entered, with_holder, with_head, with_entry, in_frame, step_in}
-use Rattle.js_json_values.proofs.Said.{Rest, before_nil, holder, same_said, kind_of, holder_whole, head_then, followed, Near}
+use Rattle.js_json_values.proofs.Said.{Rest, before_nil, same_said, kind_of, holder_whole, head_then, followed, Near}
 use Rattle.js_json_values.proofs.Said.{near_later, near_followed}
 use Rattle.js_json_values.proofs.Marks.{one, unseen, unseen_set, unseen_less, got, Shows, Grown, put_grown, put_shows, put_shows_if}
 use Rattle.js_json_values.proofs.Marks.{part_more, part_last}
@@ -82,7 +82,7 @@ record Under (h : Heap) (root : Value) (room : ℕ) (page : Page) (marks : List 
   size : length marks ≡ length h.cells
 
 -- the root has its text
-abbrev Whole : Heap → Value → ℕ → Page → Type 0
+abbrev pub Whole : Heap → Value → ℕ → Page → Type 0
 Whole h root room page = (full : List ℕ) × Shows room page full × (said (suc (length h.cells)) h root ≡ says full)
 
 -- what holds between two steps

@@ -1,7 +1,7 @@
 -- How the text of an array or an object is written without recursion: a walk that enters each cell once, and copies the
 -- text of one that was written before.
 use Rattle.std.specs.Prelude.{ℕ, ◌+◌, ◌-◌, Bool, true, false, List, [], ◌∷◌, ◌++◌, length, take, drop, nat_lt}
-use Rattle.std.specs.Prelude.{slice_get, slice_set, Option, Some, None, if◌then◌else◌}
+use Rattle.std.specs.Prelude.{replicate, slice_get, slice_set, Option, Some, None, if◌then◌else◌}
 use Rattle.js_arena.specs.declared.value.CellNo.{CellNo}
 use Rattle.js_arena.specs.Heap.{Heap}
 use Rattle.js_json_values.specs.declared.kinds.Entry.{Entry}
@@ -34,6 +34,11 @@ part from to text = take (to - from) (drop from text)
 -- the state of these parts
 abbrev pub walk_of : Page → List Mark → List Frame → Walk
 walk_of page marks frames = record { page = page; marks = marks; frames = frames }
+
+-- the array or the object in a cell
+abbrev pub holder : Bool → CellNo → Shape
+holder true at = shape.Array at
+holder false at = shape.Object at
 
 -- an array or an object of which nothing is written but its bracket
 abbrev pub frame_of : CellNo → Bool → ℕ → List Entry → Frame
@@ -86,6 +91,10 @@ abbrev pub entered : Heap → ℕ → Page → List Mark → List Frame → Cell
 entered h room page marks fs at array =
     walk_of (put room (open_unit array ∷ []) page) (with_mark at Open marks)
         (frame_of at array (length page.text) (entries_at at h) ∷ fs)
+
+-- the walk that begins in an array or an object
+abbrev pub begun : Heap → ℕ → CellNo → Bool → Walk
+begun h room at array = entered h room (page_of [] false) (replicate (length h.cells) Unseen) [] at array
 
 -- an entry that is an array or an object, by what is known of its cell; the page has all before its text
 abbrev pub with_holder : Heap → ℕ → Page → List Mark → List Frame → CellNo → Bool → Mark → Step

@@ -10,5 +10,9 @@ mod number;
 mod parse;
 mod quote;
 mod shape;
+mod stringify;
 mod units;
 mod walk;
+
+pub use parse::parse;
+pub use stringify::stringify;

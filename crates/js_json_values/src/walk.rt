@@ -180,8 +180,8 @@ fn with_flat(
     }
 }
 
-/// An array or an object begins in another one.
-fn entered(
+/// An array or an object begins, in another one or by itself.
+pub fn entered(
     alloc: Global,
     arena: &Arena,
     room: usize,
