@@ -11,6 +11,8 @@ mod parse;
 mod quote;
 mod shape;
 mod stringify;
+#[cfg(test)]
+mod tests;
 mod units;
 mod walk;
 

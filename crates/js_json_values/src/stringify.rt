@@ -12,6 +12,7 @@ use std::alloc::Global;
 use wd_base::{NoMemory, Seq, Stack, Units};
 
 /// No cell was seen.
+#[tactic(auto, using(crate::proofs::Pieces::one_more))]
 fn unseen(alloc: Global, count: u32) -> Result<Seq<Mark>, NoMemory>
     ensures { IfOk result (λ marks. marks ≡ replicate count Mark.Unseen) }
 {
