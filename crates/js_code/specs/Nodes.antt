@@ -45,9 +45,13 @@ pub record Table : Type 0 where
 abbrev pub node_at : Table → ℕ → Node
 node_at t n = get_or t.nodes n empty_list
 
--- the text of a number, which is empty for a number without a text
+-- one of these texts, which is empty for a number without a text
+abbrev pub text_in : List (List ℕ) → ℕ → List ℕ
+text_in texts k = get_or texts k []
+
+-- the text of a number
 abbrev pub text_at : Table → ℕ → List ℕ
-text_at t k = get_or t.texts k []
+text_at t k = text_in t.texts k
 
 -- the names of a scope's number; a number without a scope has none
 abbrev pub scope_at : Table → ℕ → Names

@@ -5,6 +5,7 @@ pub mod Each
 pub mod Flows
 pub mod Hosts
 pub mod HostValues
+pub mod Laws
 pub mod Lists
 pub mod Loops
 pub mod Makes
