@@ -89,14 +89,14 @@ statement_parts statement.Empty = []
 abbrev pub loop_parts : {S P : Type 0} → Loop S P → List P
 loop_parts (loop.While a b) = a ∷ b ∷ []
 loop_parts (loop.For a b c) = option_to_list b ++ (c ∷ [])
-loop_parts (loop.Turns a b c d) = option_to_list b ++ option_to_list c ++ (d ∷ [])
+loop_parts (loop.Turns a b c d) = option_to_list b ++ (option_to_list c ++ (d ∷ []))
 loop_parts (loop.ForOf a b c) = b ∷ c ∷ []
 loop_parts loop.Break = []
 loop_parts loop.Continue = []
 
 -- the parts of one, in order
 abbrev pub try_parts : {S P : Type 0} → Try S P → List P
-try_parts (try.Try a b c) = (a ∷ []) ++ option_to_list b ++ option_to_list c
+try_parts (try.Try a b c) = (a ∷ []) ++ (option_to_list b ++ option_to_list c)
 try_parts (try.Clause a b c) = b ∷ c ∷ []
 
 -- the parts of one, in order

@@ -28,8 +28,10 @@ use Rattle.js_code.specs.declared.code.Change.TheVariants as change
 use Rattle.js_code.specs.Nodes.{look, node, empty_list}
 use Rattle.js_code.specs.Scopes.{Piece, Contents, contents, value_contents, plain_piece, function_piece, listed, block}
 use Rattle.js_code.specs.Scopes.{names_of, functions_of}
-use Rattle.js_code.specs.Plain.{operand, whole, assign_node, call_node, key_text, object_node, parts_node, function_node}
-use Rattle.js_code.specs.Plain.{named_node, declare_piece, Begun, begun_by, for_node, for_of_node, clause_node, try_node}
+use Rattle.js_code.specs.Plain.{operand, whole, assign_node, call_node, key_text, object_node, parts_node}
+use Rattle.js_code.specs.Plain.{function_node}
+use Rattle.js_code.specs.Plain.{named_node, declare_piece, Begun, begun_by, for_node, for_of_node, clause_node}
+use Rattle.js_code.specs.Plain.{try_node}
 
 -- a key or a name, and the value behind it
 abbrev pub Pair : Type 0

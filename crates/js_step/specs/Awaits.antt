@@ -10,7 +10,7 @@ use Rattle.js_step.specs.declared.ends.Settled.{Settled}
 use Rattle.js_step.specs.declared.ends.Settled.TheVariants as settled
 use Rattle.js_step.specs.declared.frames.BodyFrame.{BodyFrame}
 use Rattle.js_step.specs.declared.frames.BodyFrame.TheVariants.{Plain, Async, Made}
-use Rattle.js_step.specs.Flows.{Did, Waits, Gone, Got, ends, fails, gives, on_host}
+use Rattle.js_step.specs.Flows.{Did, Waits, Gone, ends, fails, gives, on_host, with_result}
 use Rattle.js_step.specs.Hosts.{promise_of}
 use Rattle.js_step.specs.Meaning.{Meaning}
 use Rattle.js_step.specs.Opening.{left_call}
@@ -27,23 +27,15 @@ abbrev pub waits_or : {H : Type 0} → PromiseNo → Result (Unit {0}) OpEnd →
 waits_or p (Ok x) w = (w, Waits p)
 waits_or p (Err e) w = fails e w
 
--- as before
-abbrev pub waits_got : {H : Type 0} → PromiseNo → Got H (Unit {0}) → Gone H
-waits_got p r = waits_or p r.1 r.0
-
 -- a new promise is fulfilled with a value and waited for
-abbrev pub wrapped : {H : Type 0} → Meaning H → Result PromiseNo OpEnd → Value → World H → Gone H
-wrapped m (Ok p) v w = waits_got p (on_host (m.settle w.host w.heap p (settled.Value v)) w)
-wrapped m (Err e) v w = fails e w
-
--- as before
-abbrev pub wrapped_got : {H : Type 0} → Meaning H → Got H PromiseNo → Value → Gone H
-wrapped_got m r v = wrapped m r.1 v r.0
+abbrev pub wrapped : {H : Type 0} → Meaning H → Value → Result PromiseNo OpEnd → World H → Gone H
+wrapped m v (Ok p) w = with_result (waits_or p) (on_host (m.settle w.host w.heap p (settled.Value v)) w)
+wrapped m v (Err e) w = fails e w
 
 -- a promise itself is waited for, and any other value as that of a new promise (section 27.2.4.7.1, PromiseResolve)
 abbrev pub waits_for : {H : Type 0} → Meaning H → Option PromiseNo → Value → World H → Gone H
 waits_for m (Some p) v w = (w, Waits p)
-waits_for m None v w = wrapped_got m (on_host (m.promise w.host w.heap) w) v
+waits_for m None v w = with_result (wrapped m v) (on_host (m.promise w.host w.heap) w)
 
 -- `await` has its operand's value (section 27.7.5.3)
 abbrev pub waited : {H : Type 0} → Meaning H → Value → World H → Gone H
@@ -72,13 +64,9 @@ abbrev pub promise_or : {H : Type 0} → PromiseNo → Result (Unit {0}) OpEnd �
 promise_or p (Ok x) w = gives (promise_value p) w
 promise_or p (Err e) w = fails e w
 
--- as before
-abbrev pub promise_got : {H : Type 0} → PromiseNo → Got H (Unit {0}) → Gone H
-promise_got p r = promise_or p r.1 r.0
-
 -- a promise is settled and is the value
 abbrev pub settles : {H : Type 0} → Meaning H → PromiseNo → Settled → World H → Gone H
-settles m p s w = promise_got p (on_host (m.settle w.host w.heap p s) w)
+settles m p s w = with_result (promise_or p) (on_host (m.settle w.host w.heap p s) w)
 
 -- a host's call whose value is a promise: what it throws settles that
 abbrev pub made_end : {H : Type 0} → Meaning H → PromiseNo → End → World H → Gone H

@@ -16,7 +16,7 @@ use Rattle.js_step.specs.declared.frames.CallFrame.TheVariants.{Callee, Field, I
 use Rattle.js_step.specs.declared.frames.Calling.{Calling}
 use Rattle.js_step.specs.declared.frames.Frame.TheVariants as frame
 use Rattle.js_step.specs.Calls.{called}
-use Rattle.js_step.specs.Flows.{Gone, Got, first, next, fails}
+use Rattle.js_step.specs.Flows.{Gone, first, next, fails, with_result}
 use Rattle.js_step.specs.Meaning.{Meaning}
 use Rattle.js_step.specs.Members.{read_member}
 use Rattle.js_step.specs.Names.{literal, read_name}
@@ -41,10 +41,6 @@ abbrev pub method_argued : {H : Type 0} → Meaning H → Value → Node → Env
 method_argued m o args e (Ok f) w = argued m (calling f o []) (listing args) e w
 method_argued m o args e (Err end) w = fails end w
 
--- as before
-abbrev pub method_got : {H : Type 0} → Meaning H → Value → Node → Env → Got H Value → Gone H
-method_got m o args e r = method_argued m o args e r.1 r.0
-
 -- the next argument of `new`; behind the last one the object is made (section 13.3.5.1.1)
 abbrev pub new_argued : {H : Type 0} → Meaning H → Calling → Listing (List ℕ) Node → Env → World H → Gone H
 new_argued m c (list.More n rest) e w = first n e (frame.Call (NewArgument c rest e)) w
@@ -54,10 +50,6 @@ new_argued m c _ e w = constructed m c.function c.arguments w
 abbrev pub class_got : {H : Type 0} → Meaning H → Node → Env → Result Value OpEnd → World H → Gone H
 class_got m args e (Ok c) w = new_argued m (calling c Undefined []) (listing args) e w
 class_got m args e (Err end) w = fails end w
-
--- as before
-abbrev pub class_read : {H : Type 0} → Meaning H → Node → Env → Got H Value → Gone H
-class_read m args e r = class_got m args e r.1 r.0
 
 -- a member that is called is entered: its object first
 abbrev pub enter_callee : {H : Type 0} → Member (List ℕ) Node → Node → Env → World H → Gone H
@@ -69,13 +61,13 @@ abbrev pub enter_call : {H : Type 0} → Meaning H → Call (List ℕ) Node → 
 enter_call m (call.Plain f args) e w = first f e (frame.Call (Callee args e)) w         -- 13.3.6.1
 enter_call m (call.Whole target) e w = next target e w                                  -- 13.3.6.1
 enter_call m (call.Target at args) e w = enter_callee at args e w                       -- 13.3.2.1
-enter_call m (call.New x args) e w = class_read m args e (read_name m x e w)            -- 13.3.5.1.1
+enter_call m (call.New x args) e w = with_result (class_got m args e) (read_name m x e w)   -- 13.3.5.1.1
 
 -- a call gets a value
 abbrev pub resume_call : {H : Type 0} → Meaning H → CallFrame (List ℕ) Node Env → Value → World H → Gone H
 resume_call m (Callee args e) f w = argued m (calling f Undefined []) (listing args) e w
-resume_call m (Field x args e) o w = method_got m o args e (read_member m o (literal x w) w)
+resume_call m (Field x args e) o w = with_result (method_argued m o args e) (read_member m o (literal x w) w)
 resume_call m (Item k args e) o w = first k e (frame.Call (Key o args e)) w
-resume_call m (Key o args e) k w = method_got m o args e (read_member m o k w)
+resume_call m (Key o args e) k w = with_result (method_argued m o args e) (read_member m o k w)
 resume_call m (Argument c rest e) v w = argued m (with_argument c v) (listing rest) e w
 resume_call m (NewArgument c rest e) v w = new_argued m (with_argument c v) (listing rest) e w

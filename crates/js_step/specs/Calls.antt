@@ -21,8 +21,8 @@ use Rattle.js_step.specs.declared.ends.PromiseNo.{PromiseNo}
 use Rattle.js_step.specs.declared.frames.BodyFrame.{BodyFrame}
 use Rattle.js_step.specs.declared.frames.BodyFrame.TheVariants.{Plain, Async}
 use Rattle.js_step.specs.declared.frames.Frame.TheVariants as frame
-use Rattle.js_step.specs.Flows.{Gone, Got, fails, is_full, on_host, throws}
-use Rattle.js_step.specs.Lists.{runs_opened, over_frame}
+use Rattle.js_step.specs.Flows.{Gone, fails, is_full, on_host, throws, with_result}
+use Rattle.js_step.specs.Lists.{runs_in, over_frame}
 use Rattle.js_step.specs.Meaning.{Meaning}
 use Rattle.js_step.specs.Natives.{native_call}
 use Rattle.js_step.specs.Opening.{opened}
@@ -53,21 +53,18 @@ call_env e c = record e { call = c }
 -- the parameters get the arguments (section 10.2.11), and the body runs over the frame of its call
 abbrev pub body_runs : {H : Type 0} → Names → Node → Node → BodyFrame → List Value → Env → World H → Gone H
 body_runs names functions body f vs e w =
-    over_frame (frame.Body f) (runs_opened body (opened names functions vs e w))
+    over_frame (frame.Body f) (with_result (runs_in body) (opened names functions vs e w))
 
 -- the promise of an async call is made first (section 27.7.5.1)
-abbrev pub async_runs : {H : Type 0} → Names → Node → Node → List Value → Env → Result PromiseNo OpEnd → World H → Gone H
+abbrev pub async_runs : {H : Type 0} → Names → Node → Node → List Value → Env → Result PromiseNo OpEnd → World H
+    → Gone H
 async_runs names functions body vs e (Ok p) w = body_runs names functions body (Async p e.call) vs e w
 async_runs names functions body vs e (Err end) w = fails end w
-
--- as before
-abbrev pub async_got : {H : Type 0} → Names → Node → Node → List Value → Env → Got H PromiseNo → Gone H
-async_got names functions body vs e r = async_runs names functions body vs e r.1 r.0
 
 -- a call runs in its environment, async or not
 abbrev pub call_runs : {H : Type 0} → Meaning H → Bool → Names → Node → Node → List Value → Env → World H → Gone H
 call_runs m true names functions body vs e w =
-    async_got names functions body vs e (on_host (m.promise w.host w.heap) w)
+    with_result (async_runs names functions body vs e) (on_host (m.promise w.host w.heap) w)
 call_runs m false names functions body vs e w = body_runs names functions body (Plain e.call) vs e w
 
 -- a function is called: an activation of 8 units, and then its body (section 10.2.1)

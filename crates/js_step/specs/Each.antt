@@ -1,6 +1,7 @@
--- `map`, `filter` and `forEach` of an array (ECMA-262, sections 23.1.3.21, 23.1.3.8 and 23.1.3.15): the callback gets an
--- item and its index. The length is that at the begin, and an item that is gone is skipped.
-use Rattle.std.specs.Prelude.{ℕ, ◌+◌, Bool, true, false, ◌&&◌, List, [], ◌∷◌, length, nat_lt, slice_get, Option, Some, None}
+-- `map`, `filter` and `forEach` of an array (ECMA-262, sections 23.1.3.21, 23.1.3.8 and 23.1.3.15): the callback gets
+-- an item and its index. The length is that at the begin, and an item that is gone is skipped.
+use Rattle.std.specs.Prelude.{ℕ, ◌+◌, Bool, true, false, ◌&&◌, List, [], ◌∷◌, length, nat_lt, slice_get, Option, Some}
+use Rattle.std.specs.Prelude.{None}
 use Rattle.std.specs.Prelude.{Result, Ok, Err, pos, if◌then◌else◌}
 use Rattle.js_arena.specs.declared.value.Cell.{Cell}
 use Rattle.js_arena.specs.declared.value.Cell.TheVariants.{Array as ArrayCell, Function as FunctionCell}
@@ -20,7 +21,7 @@ use Rattle.js_step.specs.declared.frames.Each.{Each}
 use Rattle.js_step.specs.declared.frames.EachKind.{EachKind}
 use Rattle.js_step.specs.declared.frames.EachKind.TheVariants.{Map, Filter, ForEach}
 use Rattle.js_step.specs.declared.frames.Frame.TheVariants as frame
-use Rattle.js_step.specs.Flows.{Gone, Got, fails, gives, is_full, next_no, pushes, throws, with_heap}
+use Rattle.js_step.specs.Flows.{Gone, fails, gives, is_full, next_no, pushes, throws, with_heap, with_result}
 use Rattle.js_step.specs.HostValues.{call_frame}
 use Rattle.js_step.specs.Makes.{item_added}
 use Rattle.js_step.specs.Worlds.{World}
@@ -66,13 +67,9 @@ abbrev pub each_after : {H : Type 0} → Each → Result (Unit {0}) OpEnd → Wo
 each_after each (Ok x) w = each_next each w
 each_after each (Err end) w = fails end w
 
--- as before
-abbrev pub each_got : {H : Type 0} → Each → Got H (Unit {0}) → Gone H
-each_got each r = each_after each r.1 r.0
-
 -- what is made gets one more item
 abbrev pub made_more : {H : Type 0} → Each → Value → Value → World H → Gone H
-made_more each (value.Cell at) v w = each_got each (item_added at v w)
+made_more each (value.Cell at) v w = with_result (each_after each) (item_added at v w)
 made_more each _ v w = throws TypeError BadArgument w
 
 -- the callback gave this value

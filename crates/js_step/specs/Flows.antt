@@ -87,7 +87,7 @@ throws_cell cell w =
 abbrev pub throws : {H : Type 0} → ErrKind → Msg → World H → Gone H
 throws kind msg w = throws_cell (Error kind msg) w
 
--- an operation without a value; no heap means NoMemory, which is read as no room
+-- an operation without a value; no definition means want of memory, which is read as no room so that each end has one
 abbrev pub fails : {H : Type 0} → OpEnd → World H → Gone H
 fails (op.Throw kind msg) w = throws kind msg w
 fails op.Full w = is_full w
@@ -110,9 +110,13 @@ on_heap r w = (with_heap r.0 w, r.1)
 abbrev pub on_host : {H A : Type 0} → Answer H A → World H → Got H A
 on_host a w = (record w { host = a.host; heap = a.heap }, a.result)
 
+-- what comes of a result, in the world that came with it
+abbrev pub with_result : {W A B : Type 0} → (A → W → B) → W × A → B
+with_result f r = f r.1 r.0
+
 -- an operation whose value is that of the form
 abbrev pub got : {H : Type 0} → Got H Value → Gone H
-got r = result_gone r.1 r.0
+got r = with_result result_gone r
 
 -- an operation on the heap alone, whose value is that of the form
 abbrev pub op_gave : {H : Type 0} → Heap × Result Value OpEnd → World H → Gone H
@@ -125,4 +129,4 @@ wrote_gone v (Err end) w = fails end w
 
 -- a write, after which the form has this value
 abbrev pub wrote : {H : Type 0} → Value → Got H (Unit {0}) → Gone H
-wrote v r = wrote_gone v r.1 r.0
+wrote v r = with_result (wrote_gone v) r

@@ -8,7 +8,7 @@ use Rattle.js_step.specs.declared.frames.BodyFrame.TheVariants.{Made}
 use Rattle.js_step.specs.declared.frames.Frame.TheVariants as frame
 use Rattle.js_step.specs.declared.host.HostValue.{HostValue}
 use Rattle.js_step.specs.declared.host.HostValue.TheVariants.{Value as Plain, Enter}
-use Rattle.js_step.specs.Flows.{Gone, Got, fails, gives, on_host, pushes}
+use Rattle.js_step.specs.Flows.{Gone, fails, gives, on_host, pushes, with_result}
 use Rattle.js_step.specs.Meaning.{Meaning}
 use Rattle.js_step.specs.Worlds.{JsFrame, World}
 
@@ -26,19 +26,15 @@ abbrev pub host_value : {H : Type 0} → HostValue → World H → Gone H
 host_value (Plain v) w = gives v w
 host_value (Enter f this vs p) w = begins_over (call_frame f this vs) p w
 
--- as before, where the host has one
+-- what the host's function gives, or its failure
 abbrev pub host_value_or : {H : Type 0} → Result HostValue OpEnd → World H → Gone H
 host_value_or (Ok v) w = host_value v w
 host_value_or (Err end) w = fails end w
 
--- as before
-abbrev pub host_got : {H : Type 0} → Got H HostValue → Gone H
-host_got r = host_value_or r.1 r.0
-
 -- a function of the host is called
 abbrev pub host_called : {H : Type 0} → Meaning H → Value → Value → List Value → World H → Gone H
-host_called m f this vs w = host_got (on_host (m.call w.host w.heap f this vs) w)
+host_called m f this vs w = with_result host_value_or (on_host (m.call w.host w.heap f this vs) w)
 
 -- an object of the host's class is made
 abbrev pub host_made : {H : Type 0} → Meaning H → List ℕ → List Value → World H → Gone H
-host_made m name vs w = host_got (on_host (m.construct w.host w.heap name vs) w)
+host_made m name vs w = with_result host_value_or (on_host (m.construct w.host w.heap name vs) w)

@@ -1,5 +1,5 @@
--- Which values are the host's: whose members it reads and writes, which are promises, and which are its classes. None is
--- one yet but handles; a kind of cell or a built-in that a host adds gets its line here.
+-- Which values are the host's: whose members it reads and writes, which are promises, and which are its classes. Only
+-- handles are; a kind of cell or a built-in that a host adds gets its line here.
 use Rattle.std.specs.Prelude.{ℕ, Bool, true, false, List, Option, Some, None}
 use Rattle.js_arena.specs.declared.value.Cell.{Cell}
 use Rattle.js_arena.specs.declared.value.Cell.TheVariants as cell

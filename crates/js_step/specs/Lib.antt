@@ -20,6 +20,7 @@ pub mod Operators
 pub mod Scopes
 pub mod Settle
 pub mod Statements
+pub mod Suspends
 pub mod Tries
 pub mod Worlds
 pub mod Writes

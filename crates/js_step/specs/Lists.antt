@@ -10,7 +10,6 @@ use Rattle.js_step.specs.declared.frames.Begin.TheVariants.{Now}
 use Rattle.js_step.specs.declared.frames.Frame.TheVariants as frame
 use Rattle.js_step.specs.declared.frames.StatementFrame.TheVariants.{Rest, Export, Return}
 use Rattle.js_step.specs.Flows.{Did, Pushes, Ends, Waits, Full, Gone, is_full}
-use Rattle.js_step.specs.Scopes.{Opened}
 use Rattle.js_step.specs.Worlds.{Env, JsFrame, World}
 
 -- the next statement of a list, and the end of a list without any; of an export the object comes next, and the
@@ -34,10 +33,6 @@ abbrev pub runs_in : {H : Type 0} → Node → Option Env → World H → Gone H
 runs_in body (Some e) w = runs body e w
 runs_in body None w = is_full w
 
--- as before
-abbrev pub runs_opened : {H : Type 0} → Node → Opened H → Gone H
-runs_opened body r = runs_in body r.1 r.0
-
 -- what was done stands over this frame; an end that is there already is given to it next
 abbrev pub did_over : JsFrame → Did → Did
 did_over f (Pushes fs) = Pushes (fs ++ f ∷ [])
@@ -45,6 +40,6 @@ did_over f (Ends d) = Pushes (frame.Begin (Now d) ∷ f ∷ [])
 did_over f (Waits p) = Waits p
 did_over f Full = Full
 
--- as before
+-- a frame that waits for the end of what was done
 abbrev pub over_frame : {H : Type 0} → JsFrame → Gone H → Gone H
 over_frame f r = (r.0, did_over f r.1)

@@ -18,8 +18,9 @@ use Rattle.js_step.specs.declared.ends.End.{End}
 use Rattle.js_step.specs.declared.ends.End.TheVariants.{Gives, Throws, Returns, Breaks, Continues}
 use Rattle.js_step.specs.declared.frames.Frame.TheVariants as frame
 use Rattle.js_step.specs.declared.frames.LoopFrame.{LoopFrame}
-use Rattle.js_step.specs.declared.frames.LoopFrame.TheVariants.{WhileTest, WhileBody, ForBegin, ForTest, ForBody, ForUpdate, OfArray, OfBody}
-use Rattle.js_step.specs.Flows.{Gone, done, ends, first, is_full, throws}
+use Rattle.js_step.specs.declared.frames.LoopFrame.TheVariants.{WhileTest, WhileBody, ForBegin, ForTest, ForBody}
+use Rattle.js_step.specs.declared.frames.LoopFrame.TheVariants.{ForUpdate, OfArray, OfBody}
+use Rattle.js_step.specs.Flows.{Gone, done, ends, first, is_full, throws, with_result}
 use Rattle.js_step.specs.Opening.{opened, fresh_copy, fresh_item}
 use Rattle.js_step.specs.Scopes.{Opened}
 use Rattle.js_step.specs.Worlds.{Env, World}
@@ -74,7 +75,7 @@ for_first n None w = is_full w
 
 -- after the begin
 abbrev pub for_begun : {H : Type 0} → Node → Env → World H → Gone H
-for_begun n e w = let r = for_own (turns_of n).own e w in for_first n r.1 r.0
+for_begun n e w = with_result (for_first n) (for_own (turns_of n).own e w)
 
 -- a further turn begins with its update
 abbrev pub for_further : {H : Type 0} → Node → Option Env → World H → Gone H
@@ -83,17 +84,13 @@ for_further n None w = is_full w
 
 -- after a body
 abbrev pub for_turned : {H : Type 0} → Node → Env → World H → Gone H
-for_turned n e w = let r = for_own (turns_of n).own e w in for_further n r.1 r.0
+for_turned n e w = with_result (for_further n) (for_own (turns_of n).own e w)
 
 -- the begin of a `for` in its scope
 abbrev pub for_begins : {H : Type 0} → Option Node → Node → Option Env → World H → Gone H
 for_begins (Some b) n (Some e) w = first b e (frame.Loop (ForBegin n e)) w
 for_begins None n (Some e) w = for_begun n e w
 for_begins b n None w = is_full w
-
--- as before
-abbrev pub for_opened : {H : Type 0} → Option Node → Node → Opened H → Gone H
-for_opened b n r = for_begins b n r.1 r.0
 
 -- ---- `for of` (sections 14.7.5.5 to 14.7.5.7)
 
@@ -102,10 +99,6 @@ abbrev pub of_array : {H : Type 0} → Node → Node → Option Env → World H 
 of_array v b (Some e) w = first v e (frame.Loop (OfArray b e)) w
 of_array v b None w = is_full w
 
--- as before
-abbrev pub of_opened : {H : Type 0} → Node → Node → Opened H → Gone H
-of_opened v b r = of_array v b r.1 r.0
-
 -- the body comes next, in a scope whose variable has the item
 abbrev pub of_body : {H : Type 0} → CellNo → ℕ → Node → Option Env → World H → Gone H
 of_body at i b (Some e) w = first b e (frame.Loop (OfBody at i b e)) w
@@ -113,7 +106,7 @@ of_body at i b None w = is_full w
 
 -- a turn for an item; behind the last one the loop ends
 abbrev pub of_item : {H : Type 0} → CellNo → ℕ → Node → Env → Option Value → World H → Gone H
-of_item at i b e (Some v) w = let r = fresh_item v e w in of_body at (i + 1) b r.1 r.0
+of_item at i b e (Some v) w = with_result (of_body at (i + 1) b) (fresh_item v e w)
 of_item at i b e None w = done w
 
 -- the next turn: the length is looked at before each (section 23.1.5.1)
@@ -135,9 +128,9 @@ of_value _ b e w = throws TypeError NotArray w
 -- a loop is entered; `break` and `continue` are ends (sections 14.9.2 and 14.8.2)
 abbrev pub enter_loop : {H : Type 0} → Loop Names Node → Env → World H → Gone H
 enter_loop (loop.While t b) e w = while_test t b e w
-enter_loop (loop.For names b turns) e w = for_opened b turns (opened names empty_list [] e w)
+enter_loop (loop.For names b turns) e w = with_result (for_begins b turns) (opened names empty_list [] e w)
 enter_loop (loop.Turns own t u b) e w = done w
-enter_loop (loop.ForOf names v b) e w = of_opened v b (opened names empty_list [] e w)
+enter_loop (loop.ForOf names v b) e w = with_result (of_array v b) (opened names empty_list [] e w)
 enter_loop loop.Break e w = ends Breaks w
 enter_loop loop.Continue e w = ends Continues w
 

@@ -20,11 +20,12 @@ use Rattle.js_code.specs.Nodes.{Names, listing, empty_list}
 use Rattle.js_step.specs.declared.frames.Frame.TheVariants as frame
 use Rattle.js_step.specs.declared.frames.MakeFrame.{MakeFrame}
 use Rattle.js_step.specs.declared.frames.MakeFrame.TheVariants.{Item, Property}
-use Rattle.js_step.specs.Flows.{Gone, Got, first, fails, gives, is_full, next_no, on_heap, wrote, with_heap}
+use Rattle.js_step.specs.Flows.{Gone, Got, first, fails, gives, is_full, next_no, on_heap, with_result, wrote}
+use Rattle.js_step.specs.Flows.{with_heap}
 use Rattle.js_step.specs.NameWrites.{initialize}
 use Rattle.js_step.specs.Names.{bad_argument}
 use Rattle.js_step.specs.Opening.{opened}
-use Rattle.js_step.specs.Scopes.{Opened, closed}
+use Rattle.js_step.specs.Scopes.{closed}
 use Rattle.js_step.specs.Worlds.{Env, World}
 
 -- ---- arrays (section 13.2.4.2)
@@ -48,10 +49,6 @@ abbrev pub items_after : {H : Type 0} → CellNo → Node → Env → Result (Un
 items_after at rest e (Ok x) w = items_next at (listing rest) e w
 items_after at rest e (Err end) w = fails end w
 
--- as before
-abbrev pub items_got : {H : Type 0} → CellNo → Node → Env → Got H (Unit {0}) → Gone H
-items_got at rest e r = items_after at rest e r.1 r.0
-
 -- an array without items is made, and then gets them
 abbrev pub array_made : {H : Type 0} → Node → Env → World H → Gone H
 array_made items e w =
@@ -70,10 +67,6 @@ abbrev pub properties_after : {H : Type 0} → CellNo → Node → Env → Resul
 properties_after at rest e (Ok x) w = properties_next at (listing rest) e w
 properties_after at rest e (Err end) w = fails end w
 
--- as before
-abbrev pub properties_got : {H : Type 0} → CellNo → Node → Env → Got H (Unit {0}) → Gone H
-properties_got at rest e r = properties_after at rest e r.1 r.0
-
 -- an object without properties is made, and then gets them
 abbrev pub object_made : {H : Type 0} → Node → Env → World H → Gone H
 object_made properties e w =
@@ -88,27 +81,15 @@ abbrev pub function_or : {H : Type 0} → Option Value → World H → Gone H
 function_or (Some f) w = gives f w
 function_or None w = is_full w
 
--- as before
-abbrev pub function_got : {H : Type 0} → World H × Option Value → Gone H
-function_got r = function_or r.1 r.0
-
 -- the name of a function expression is a constant with the function as its value (section 15.2.5)
 abbrev pub named_or : {H : Type 0} → List ℕ → Env → Option Value → World H → Gone H
 named_or x e (Some f) w = wrote f (initialize x f e w)
 named_or x e None w = is_full w
 
--- as before
-abbrev pub named_got : {H : Type 0} → List ℕ → Env → World H × Option Value → Gone H
-named_got x e r = named_or x e r.1 r.0
-
 -- the function is evaluated in the scope of its name
 abbrev pub named_in : {H : Type 0} → List ℕ → Node → Option Env → World H → Gone H
-named_in x f (Some e) w = named_got x e (closed f e w)
+named_in x f (Some e) w = with_result (named_or x e) (closed f e w)
 named_in x f None w = is_full w
-
--- as before
-abbrev pub named_opened : {H : Type 0} → List ℕ → Node → Opened H → Gone H
-named_opened x f r = named_in x f r.1 r.0
 
 -- the scope of a function expression's name
 abbrev pub own_name : List ℕ → Names
@@ -120,10 +101,13 @@ own_name x = record { name = x; kind = Const } ∷ []
 abbrev pub enter_make : {H : Type 0} → Node → Make (List ℕ) Names Node → Env → World H → Gone H
 enter_make n (make.Array items) e w = array_made items e w                                          -- 13.2.4.2
 enter_make n (make.Object properties) e w = object_made properties e w                              -- 13.2.5.4
-enter_make n (make.Function kind names functions body) e w = function_got (closed n e w)            -- 15.2.5, 15.3.4
-enter_make n (make.Named x f) e w = named_opened x f (opened (own_name x) empty_list [] e w)        -- 15.2.5
+enter_make n (make.Function kind names functions body) e w =                                        -- 15.2.5, 15.3.4
+    with_result function_or (closed n e w)
+enter_make n (make.Named x f) e w =                                                                 -- 15.2.5
+    with_result (named_in x f) (opened (own_name x) empty_list [] e w)
 
 -- an array or an object in the making gets a value (section 7.3.7, CreateDataPropertyOrThrow)
 abbrev pub resume_make : {H : Type 0} → MakeFrame (List ℕ) Node Env → Value → World H → Gone H
-resume_make (Item at rest e) v w = items_got at rest e (item_added at v w)
-resume_make (Property at x rest e) v w = properties_got at rest e (on_heap (write_of (CellValue at) x v w.heap) w)
+resume_make (Item at rest e) v w = with_result (items_after at rest e) (item_added at v w)
+resume_make (Property at x rest e) v w =
+    with_result (properties_after at rest e) (on_heap (write_of (CellValue at) x v w.heap) w)

@@ -1,4 +1,4 @@
--- Names: where they are, what they hold, and how they are written (ECMA-262, sections 9.1.1.1, 9.4.2, 13.1.3 and 6.2.5).
+-- Names: where they are, and what they hold (ECMA-262, sections 9.1.1.1, 9.4.2, 13.1.3 and 6.2.5).
 use Rattle.std.specs.Prelude.{ℕ, ◌+◌, codes, Bool, true, false, List, [], ◌∷◌, Option, Some, None, Result, Ok, Err}
 use Rattle.std.specs.Prelude.{bytes_eq, if◌then◌else◌}
 use Rattle.std.specs.Map.{lookup}

@@ -11,6 +11,7 @@ use Rattle.js_code.specs.declared.code.Node.{Node}
 use Rattle.js_code.specs.Nodes.{Names}
 use Rattle.js_step.specs.declared.calls.Activation.{Activation}
 use Rattle.js_step.specs.declared.calls.Row.{Row}
+use Rattle.js_step.specs.Flows.{with_result}
 use Rattle.js_step.specs.Scopes.{Opened, noted, hoisted, new_variables}
 use Rattle.js_step.specs.Worlds.{Block, Env, World, cell_no}
 
@@ -25,14 +26,13 @@ with_scope cells c w = record w {
     calls = noted c (length w.heap.cells) (length cells) w.calls }
 
 -- the environment, where there was room
-abbrev pub opened_env : {H : Type 0} → Env → World H → Bool → Opened H
-opened_env e w true = (w, Some e)
-opened_env e w false = (w, None)
+abbrev pub opened_env : {H : Type 0} → Env → Bool → World H → Opened H
+opened_env e true w = (w, Some e)
+opened_env e false w = (w, None)
 
 -- the functions of a scope are evaluated in it
 abbrev pub opened_in : {H : Type 0} → Names → ℕ → Node → Env → World H → Opened H
-opened_in names first functions e w =
-    let r = hoisted names first functions e w in opened_env e r.0 r.1
+opened_in names first functions e w = with_result (opened_env e) (hoisted names first functions e w)
 
 -- a scope of at least one name is opened: all its variables are made, and then its functions
 abbrev pub opened_some : {H : Type 0} → Names → Node → List Value → Env → World H → Opened H

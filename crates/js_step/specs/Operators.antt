@@ -24,7 +24,8 @@ use Rattle.js_code.specs.declared.code.Operator.TheVariants as operator
 use Rattle.js_code.specs.Nodes.{listing, empty_list}
 use Rattle.js_step.specs.declared.frames.Frame.TheVariants as frame
 use Rattle.js_step.specs.declared.frames.OperatorFrame.{OperatorFrame}
-use Rattle.js_step.specs.declared.frames.OperatorFrame.TheVariants.{Unary as UnaryFrame, Left, Right, Choice, Part as PartFrame, Await}
+use Rattle.js_step.specs.declared.frames.OperatorFrame.TheVariants.{Unary as UnaryFrame, Left, Right, Choice}
+use Rattle.js_step.specs.declared.frames.OperatorFrame.TheVariants.{Part as PartFrame, Await}
 use Rattle.js_step.specs.Awaits.{waited}
 use Rattle.js_step.specs.Flows.{Gone, first, next, gives, got, op_gave, refuses}
 use Rattle.js_step.specs.Meaning.{Meaning}

@@ -16,7 +16,7 @@ use Rattle.js_code.specs.declared.code.Node.{Node}
 use Rattle.js_code.specs.Nodes.{Names, listing, empty_list}
 use Rattle.js_step.specs.declared.calls.Activation.{Activation}
 use Rattle.js_step.specs.declared.calls.Row.{Row}
-use Rattle.js_step.specs.Flows.{next_no, with_heap}
+use Rattle.js_step.specs.Flows.{next_no, with_heap, with_result}
 use Rattle.js_step.specs.Worlds.{Block, Env, World, cell_no}
 
 -- the world after a scope was opened, with the environment in it; none where there is no room
@@ -29,9 +29,10 @@ Opened H = World H × Option Env
 abbrev pub call_set : ℕ → Activation → List Activation → List Activation
 call_set c a calls = slice_set calls c a
 
--- a call with one more row of variables
+-- a call with one more row of variables, unless it keeps all of them
 abbrev pub noted_in : Option Activation → ℕ → Row → List Activation → List Activation
-noted_in (Some a) c row calls = call_set c (record a { rows = a.rows ++ row ∷ [] }) calls
+noted_in (Some a) c row calls =
+    if a.keeps then calls else call_set c (record a { rows = a.rows ++ row ∷ [] }) calls
 noted_in None c row calls = calls
 
 -- the calls after one of them has n variables more
@@ -82,7 +83,7 @@ stored_function at None w = (w, false)
 
 -- a function of a scope in its variable
 abbrev pub hoisted_at : {H : Type 0} → ℕ → World H × Option Value → World H × Bool
-hoisted_at at r = stored_function at r.1 r.0
+hoisted_at at r = with_result (stored_function at) r
 
 -- the first of a list, and what stands behind it
 abbrev pub item_of : Listing (List ℕ) Node → Node
@@ -109,16 +110,15 @@ left_after bind.Const functions = functions
 left_after bind.Parameter functions = functions
 
 -- goes on where there was room
-abbrev pub on_room : {H : Type 0} → (World H → World H × Bool) → World H → Bool → World H × Bool
-on_room go w true = go w
-on_room go w false = (w, false)
+abbrev pub on_room : {H : Type 0} → (World H → World H × Bool) → Bool → World H → World H × Bool
+on_room go true w = go w
+on_room go false w = (w, false)
 
 -- the functions of a scope in the variables of their names, in order
 abbrev pub hoisted : {H : Type 0} → Names → ℕ → Node → Env → World H → World H × Bool
 hoisted [] at functions e w = (w, true)
 hoisted (b ∷ bs) at functions e w =
-    let r = hoisted_one b.kind at functions e w in
-    on_room (hoisted bs (at + 1) (left_after b.kind functions) e) r.0 r.1
+    with_result (on_room (hoisted bs (at + 1) (left_after b.kind functions) e)) (hoisted_one b.kind at functions e w)
 
 -- ---- scopes
 

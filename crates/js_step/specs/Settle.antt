@@ -1,5 +1,5 @@
 -- One step: the topmost frame begins, and each end is given to the frame under it, until a node is due.
-use Rattle.std.specs.Prelude.{ℕ, zero, suc, List, [], ◌∷◌, ◌++◌, if◌then◌else◌}
+use Rattle.std.specs.Prelude.{ℕ, zero, suc, ◌+◌, List, [], ◌∷◌, ◌++◌}
 use Rattle.js_arena.specs.declared.value.Value.{Value}
 use Rattle.js_arena.specs.declared.value.Value.TheVariants.{Undefined}
 use Rattle.js_code.specs.declared.code.Form.TheVariants as form
@@ -11,12 +11,13 @@ use Rattle.js_step.specs.declared.ends.Step.{Step}
 use Rattle.js_step.specs.declared.ends.Step.TheVariants as step
 use Rattle.js_step.specs.declared.frames.Begin.{Begin as Beginning}
 use Rattle.js_step.specs.declared.frames.Begin.TheVariants.{Script, Call as CallBegin, Now}
-use Rattle.js_step.specs.declared.frames.Frame.TheVariants.{Due, Begin, Operator, Member, Write, Make, Call, Each, Statement, Loop, Try, Body}
+use Rattle.js_step.specs.declared.frames.Frame.TheVariants.{Due, Begin, Operator, Member, Write, Make, Call, Each}
+use Rattle.js_step.specs.declared.frames.Frame.TheVariants.{Statement, Loop, Try, Body}
 use Rattle.js_step.specs.Awaits.{leave_body}
 use Rattle.js_step.specs.CallForms.{enter_call, resume_call}
 use Rattle.js_step.specs.Calls.{called}
 use Rattle.js_step.specs.Each.{resume_each}
-use Rattle.js_step.specs.Flows.{Did, Pushes, Ends, Waits, Full, Gone, done, ends}
+use Rattle.js_step.specs.Flows.{Did, Pushes, Ends, Waits, Full, Gone, done, ends, with_result}
 use Rattle.js_step.specs.Loops.{enter_loop, leave_loop}
 use Rattle.js_step.specs.Makes.{enter_make, resume_make}
 use Rattle.js_step.specs.Meaning.{Meaning}
@@ -125,18 +126,27 @@ counted (Due n e ∷ fs) = 1
 counted _ = 0
 
 -- goes on where there is more to do
-abbrev pub on_more_at : {H : Type 0} → (Run H → Run H × Step) → Run H → Step → Run H × Step
-on_more_at go r step.More = go r
-on_more_at go r (step.Done v) = (r, step.Done v)
-on_more_at go r (step.Thrown v) = (r, step.Thrown v)
-on_more_at go r (step.Waits p) = (r, step.Waits p)
-on_more_at go r step.Full = (r, step.Full)
-
--- as before
-abbrev pub on_more : {H : Type 0} → (Run H → Run H × Step) → Run H × Step → Run H × Step
-on_more go r = on_more_at go r.0 r.1
+abbrev pub on_more : {H : Type 0} → (Run H → Run H × Step) → Step → Run H → Run H × Step
+on_more go step.More r = go r
+on_more go (step.Done v) r = (r, step.Done v)
+on_more go (step.Thrown v) r = (r, step.Thrown v)
+on_more go (step.Waits p) r = (r, step.Waits p)
+on_more go step.Full r = (r, step.Full)
 
 -- so many steps, as long as there is more to do
 abbrev pub steps : {H : Type 0} → Meaning H → ℕ → Run H → Run H × Step
 steps m zero r = (r, step.More)
-steps m (suc n) r = on_more (steps m n) (step_of m r)
+steps m (suc n) r = with_result (on_more (steps m n)) (step_of m r)
+
+-- how many steps are counted, where there is more to do
+abbrev pub counts_on : {H : Type 0} → (Run H → ℕ) → Step → Run H → ℕ
+counts_on go step.More r = go r
+counts_on go (step.Done v) r = 0
+counts_on go (step.Thrown v) r = 0
+counts_on go (step.Waits p) r = 0
+counts_on go step.Full r = 0
+
+-- how many of so many steps are counted
+abbrev pub counted_in : {H : Type 0} → Meaning H → ℕ → Run H → ℕ
+counted_in m zero r = 0
+counted_in m (suc n) r = counted r.frames + with_result (counts_on (counted_in m n)) (step_of m r)

@@ -14,8 +14,8 @@ use Rattle.js_step.specs.declared.ends.End.TheVariants.{Gives, Throws, Returns}
 use Rattle.js_step.specs.declared.frames.Frame.TheVariants as frame
 use Rattle.js_step.specs.declared.frames.StatementFrame.{StatementFrame}
 use Rattle.js_step.specs.declared.frames.StatementFrame.TheVariants.{Rest, Export, Declare, Choice, Return, Throw, Drop}
-use Rattle.js_step.specs.Flows.{Gone, Got, at_once, done, ends, fails, first, next}
-use Rattle.js_step.specs.Lists.{runs, runs_opened}
+use Rattle.js_step.specs.Flows.{Gone, at_once, done, ends, fails, first, next, with_result}
+use Rattle.js_step.specs.Lists.{runs, runs_in}
 use Rattle.js_step.specs.NameWrites.{initialize}
 use Rattle.js_step.specs.Opening.{opened}
 use Rattle.js_step.specs.Worlds.{Env, World}
@@ -37,10 +37,6 @@ abbrev pub declares_after : {H : Type 0} → Node → Env → Result (Unit {0}) 
 declares_after rest e (Ok x) w = declares_next (listing rest) e w
 declares_after rest e (Err end) w = fails end w
 
--- as before
-abbrev pub declares_got : {H : Type 0} → Node → Env → Got H (Unit {0}) → Gone H
-declares_got rest e r = declares_after rest e r.1 r.0
-
 -- ---- parts that may be missing
 
 -- `return` without a value returns undefined
@@ -57,20 +53,22 @@ next_or_done None e w = done w
 
 -- a statement is entered
 abbrev pub enter_statement : {H : Type 0} → Statement Names Node → Env → World H → Gone H
-enter_statement (statement.Script names functions items) e w = runs_opened items (opened names functions [] e w)   -- 16.2.1.6.4
-enter_statement (statement.Declare ds) e w = declares_next (listing ds) e w                                        -- 14.3.1.2
-enter_statement (statement.Block names functions body) e w = runs_opened body (opened names functions [] e w)      -- 14.2.2
-enter_statement (statement.If t a b) e w = first t e (frame.Statement (Choice a b e)) w                            -- 14.6.2
-enter_statement (statement.Return v) e w = returns v e w                                                           -- 14.10.1
-enter_statement (statement.Throw v) e w = first v e (frame.Statement Throw) w                                      -- 14.14.1
-enter_statement (statement.Drop v) e w = first v e (frame.Statement Drop) w                                        -- 14.5.1
-enter_statement statement.Empty e w = done w                                                                       -- 14.4.1
+enter_statement (statement.Script names functions items) e w =                             -- 16.2.1.6.4, 16.2.1.6.5
+    with_result (runs_in items) (opened names functions [] e w)
+enter_statement (statement.Declare ds) e w = declares_next (listing ds) e w                -- 14.3.1.2
+enter_statement (statement.Block names functions body) e w =                               -- 14.2.2
+    with_result (runs_in body) (opened names functions [] e w)
+enter_statement (statement.If t a b) e w = first t e (frame.Statement (Choice a b e)) w    -- 14.6.2
+enter_statement (statement.Return v) e w = returns v e w                                   -- 14.10.1
+enter_statement (statement.Throw v) e w = first v e (frame.Statement Throw) w              -- 14.14.1
+enter_statement (statement.Drop v) e w = first v e (frame.Statement Drop) w                -- 14.5.1
+enter_statement statement.Empty e w = done w                                               -- 14.4.1
 
 -- a statement gets the value of its expression, or a list that of a statement
 abbrev pub resume_statement : {H : Type 0} → StatementFrame (List ℕ) Node Env → Value → World H → Gone H
 resume_statement (Rest rest e) v w = runs rest e w
-resume_statement (Export rest e) v w = runs rest e (record w { exported = Some v })                                -- 16.2.3.7
-resume_statement (Declare x rest e) v w = declares_got rest e (initialize x v e w)
+resume_statement (Export rest e) v w = runs rest e (record w { exported = Some v })        -- 16.2.3.7
+resume_statement (Declare x rest e) v w = with_result (declares_after rest e) (initialize x v e w)
 resume_statement (Choice a b e) v w = if truth v w.heap then next a e w else next_or_done b e w
 resume_statement Return v w = ends (Returns v) w
 resume_statement Throw v w = ends (Throws v) w

@@ -11,9 +11,8 @@ use Rattle.js_step.specs.declared.ends.End.TheVariants.{Gives, Throws, Returns, 
 use Rattle.js_step.specs.declared.frames.Frame.TheVariants as frame
 use Rattle.js_step.specs.declared.frames.TryFrame.{TryFrame}
 use Rattle.js_step.specs.declared.frames.TryFrame.TheVariants.{Catch, Finally, After}
-use Rattle.js_step.specs.Flows.{Gone, done, ends, first, is_full, next, pushes}
+use Rattle.js_step.specs.Flows.{Gone, done, ends, first, is_full, next, pushes, with_result}
 use Rattle.js_step.specs.Opening.{opened}
-use Rattle.js_step.specs.Scopes.{Opened}
 use Rattle.js_step.specs.Worlds.{Env, JsFrame, World}
 
 -- the frame of a clause of `catch`, where there is one
@@ -35,13 +34,10 @@ abbrev pub clause_in : {H : Type 0} → Node → Option Env → World H → Gone
 clause_in b (Some e) w = next b e w
 clause_in b None w = is_full w
 
--- as before
-abbrev pub clause_opened : {H : Type 0} → Node → Opened H → Gone H
-clause_opened b r = clause_in b r.1 r.0
-
 -- the clause of a form gets what was thrown (section 14.15.2, CatchClauseEvaluation)
 abbrev pub clause_runs : {H : Type 0} → NodeForm → Value → Env → World H → Gone H
-clause_runs (form.Try (try.Clause names functions b)) v e w = clause_opened b (opened names functions (v ∷ []) e w)
+clause_runs (form.Try (try.Clause names functions b)) v e w =
+    with_result (clause_in b) (opened names functions (v ∷ []) e w)
 clause_runs _ v e w = done w
 
 -- the block of `finally` runs, and then the end that waits goes on

@@ -23,8 +23,9 @@ use Rattle.js_code.specs.declared.code.Write.{Write}
 use Rattle.js_code.specs.declared.code.Write.TheVariants as write
 use Rattle.js_step.specs.declared.frames.Frame.TheVariants as frame
 use Rattle.js_step.specs.declared.frames.WriteFrame.{WriteFrame}
-use Rattle.js_step.specs.declared.frames.WriteFrame.TheVariants.{Variable, Operate, Field, Item, Key, Set, OperateMember}
-use Rattle.js_step.specs.Flows.{Gone, Got, first, next, fails, refuses, on_heap, wrote}
+use Rattle.js_step.specs.declared.frames.WriteFrame.TheVariants.{Variable, Operate, Field, Item, Key, Set}
+use Rattle.js_step.specs.declared.frames.WriteFrame.TheVariants.{OperateMember}
+use Rattle.js_step.specs.Flows.{Gone, first, next, fails, refuses, on_heap, with_result, wrote}
 use Rattle.js_step.specs.Meaning.{Meaning}
 use Rattle.js_step.specs.Members.{read_member, write_member}
 use Rattle.js_step.specs.NameWrites.{write_name}
@@ -63,35 +64,28 @@ name_read m x (change.Add v) old e w = first v e (frame.Write (Operate binary.Ad
 name_read m x (change.Subtract v) old e w = first v e (frame.Write (Operate binary.Subtract x old e)) w
 name_read m x (change.Update side op) old e w = name_numbered m x side op (to_number old w.heap) e w
 
--- as before, where it has a value
-abbrev pub name_read_or : {H : Type 0} → Meaning H → List ℕ → Change Node → Result Value OpEnd → Env → World H → Gone H
-name_read_or m x c (Ok old) e w = name_read m x c old e w
-name_read_or m x c (Err end) e w = fails end w
-
--- as before
-abbrev pub name_got : {H : Type 0} → Meaning H → List ℕ → Change Node → Got H Value → Env → Gone H
-name_got m x c r e = name_read_or m x c r.1 e r.0
+-- what is done to a name that was read, where it has a value
+abbrev pub name_got : {H : Type 0} → Meaning H → List ℕ → Change Node → Env → Result Value OpEnd → World H → Gone H
+name_got m x c e (Ok old) w = name_read m x c old e w
+name_got m x c e (Err end) w = fails end w
 
 -- the target of an assignment or an update that is a name; `=` does not read it
 abbrev pub name_changes : {H : Type 0} → Meaning H → List ℕ → Change Node → Env → World H → Gone H
 name_changes m x (change.Set v) e w = first v e (frame.Write (Variable x e)) w
-name_changes m x (change.Add v) e w = name_got m x (change.Add v) (read_name m x e w) e
-name_changes m x (change.Subtract v) e w = name_got m x (change.Subtract v) (read_name m x e w) e
-name_changes m x (change.Update side op) e w = name_got m x (change.Update side op) (read_name m x e w) e
+name_changes m x (change.Add v) e w = with_result (name_got m x (change.Add v) e) (read_name m x e w)
+name_changes m x (change.Subtract v) e w = with_result (name_got m x (change.Subtract v) e) (read_name m x e w)
+name_changes m x (change.Update side op) e w = with_result (name_got m x (change.Update side op) e) (read_name m x e w)
 
 -- the name gets what an operation gave
-abbrev pub name_gets : {H : Type 0} → Meaning H → List ℕ → Result Value OpEnd → Env → World H → Gone H
-name_gets m x (Ok v) e w = wrote v (write_name m x v e w)
-name_gets m x (Err end) e w = fails end w
-
--- as before
-abbrev pub name_operated : {H : Type 0} → Meaning H → List ℕ → Got H Value → Env → Gone H
-name_operated m x r e = name_gets m x r.1 e r.0
+abbrev pub name_gets : {H : Type 0} → Meaning H → List ℕ → Env → Result Value OpEnd → World H → Gone H
+name_gets m x e (Ok v) w = wrote v (write_name m x v e w)
+name_gets m x e (Err end) w = fails end w
 
 -- ---- members
 
 -- the member gets the new number
-abbrev pub member_stepped : {H : Type 0} → Meaning H → Value → Value → UpdateSide → ℤ → Result ℤ Fault → World H → Gone H
+abbrev pub member_stepped : {H : Type 0} → Meaning H → Value → Value → UpdateSide → ℤ → Result ℤ Fault → World H
+    → Gone H
 member_stepped m o k side old (Ok new) w = wrote (told side old new) (write_member m o k (Number new) w)
 member_stepped m o k side old (Err fault) w = refuses fault w
 
@@ -108,31 +102,25 @@ member_read m o k (change.Add v) old e w = first v e (frame.Write (OperateMember
 member_read m o k (change.Subtract v) old e w = first v e (frame.Write (OperateMember binary.Subtract o k old)) w
 member_read m o k (change.Update side op) old e w = member_numbered m o k side op (to_number old w.heap) w
 
--- as before, where it has a value
-abbrev pub member_read_or : {H : Type 0} → Meaning H → Value → Value → Change Node → Result Value OpEnd → Env → World H
+-- what is done to a member that was read, where it has a value
+abbrev pub member_got : {H : Type 0} → Meaning H → Value → Value → Change Node → Env → Result Value OpEnd → World H
     → Gone H
-member_read_or m o k c (Ok old) e w = member_read m o k c old e w
-member_read_or m o k c (Err end) e w = fails end w
-
--- as before
-abbrev pub member_got : {H : Type 0} → Meaning H → Value → Value → Change Node → Got H Value → Env → Gone H
-member_got m o k c r e = member_read_or m o k c r.1 e r.0
+member_got m o k c e (Ok old) w = member_read m o k c old e w
+member_got m o k c e (Err end) w = fails end w
 
 -- the object and the key of a target are there; `=` does not read it
 abbrev pub member_changes : {H : Type 0} → Meaning H → Value → Value → Change Node → Env → World H → Gone H
 member_changes m o k (change.Set v) e w = first v e (frame.Write (Set o k)) w
-member_changes m o k (change.Add v) e w = member_got m o k (change.Add v) (read_member m o k w) e
-member_changes m o k (change.Subtract v) e w = member_got m o k (change.Subtract v) (read_member m o k w) e
-member_changes m o k (change.Update side op) e w = member_got m o k (change.Update side op) (read_member m o k w) e
+member_changes m o k (change.Add v) e w = with_result (member_got m o k (change.Add v) e) (read_member m o k w)
+member_changes m o k (change.Subtract v) e w =
+    with_result (member_got m o k (change.Subtract v) e) (read_member m o k w)
+member_changes m o k (change.Update side op) e w =
+    with_result (member_got m o k (change.Update side op) e) (read_member m o k w)
 
 -- the member gets what an operation gave
 abbrev pub member_gets : {H : Type 0} → Meaning H → Value → Value → Result Value OpEnd → World H → Gone H
 member_gets m o k (Ok v) w = wrote v (write_member m o k v w)
 member_gets m o k (Err end) w = fails end w
-
--- as before
-abbrev pub member_operated : {H : Type 0} → Meaning H → Value → Value → Got H Value → Gone H
-member_operated m o k r = member_gets m o k r.1 r.0
 
 -- ---- the two tables
 
@@ -151,9 +139,9 @@ enter_write m (write.Target at c) e w = enter_target m at c e w
 -- an assignment or an update gets a value
 abbrev pub resume_write : {H : Type 0} → Meaning H → WriteFrame (List ℕ) Node Env → Value → World H → Gone H
 resume_write m (Variable x e) v w = wrote v (write_name m x v e w)
-resume_write m (Operate op x old e) v w = name_operated m x (on_heap (binary_of op old v w.heap) w) e
+resume_write m (Operate op x old e) v w = with_result (name_gets m x e) (on_heap (binary_of op old v w.heap) w)
 resume_write m (Field x c e) o w = member_changes m o (literal x w) c e w
 resume_write m (Item k c e) o w = first k e (frame.Write (Key o c e)) w
 resume_write m (Key o c e) k w = member_changes m o k c e w
 resume_write m (Set o k) v w = wrote v (write_member m o k v w)
-resume_write m (OperateMember op o k old) v w = member_operated m o k (on_heap (binary_of op old v w.heap) w)
+resume_write m (OperateMember op o k old) v w = with_result (member_gets m o k) (on_heap (binary_of op old v w.heap) w)
