@@ -7,14 +7,14 @@ mod grammar;
 mod kinds;
 mod lexer;
 mod number;
-mod parse;
+mod parser;
 mod quote;
 mod shape;
-mod stringify;
 #[cfg(test)]
 mod tests;
 mod units;
 mod walk;
+mod writer;
 
-pub use parse::parse;
-pub use stringify::stringify;
+pub use parser::parse;
+pub use writer::stringify;

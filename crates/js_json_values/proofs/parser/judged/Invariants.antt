@@ -4,7 +4,7 @@ use Rattle.std.specs.Option.{option_or}
 use Rattle.js_json_values.specs.Grammar.{ends_from, is_one_value}
 use Rattle.js_json_values.specs.Parse.{first_fault}
 use Rattle.js_json_values.specs.Values.{built, built_of}
-use Rattle.js_json_values.proofs.parse.judged.Given as goal
+use Rattle.js_json_values.proofs.parser.judged.Given as goal
 
 abbrev pub invariant-loop-token : goal.invariant-loop-token
 invariant-loop-token l =
