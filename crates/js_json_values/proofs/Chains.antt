@@ -1,6 +1,6 @@
 -- What is being written, one array or object in another.
 use Rattle.std.proofs.Common.{◌≡◌, ◌∙◌, ap, refl, sym, subst, ℕ, zero, suc, ◌+◌, ◌≤◌, ◌<◌, Bool, true, false, List, [], ◌∷◌, ◌++◌}
-use Rattle.std.proofs.Common.{inl, inr, append_assoc, arith, Option, Some, None, Ok, Err, absurd, length}
+use Rattle.std.proofs.Common.{inl, inr, append_assoc, arith, Option, Some, None, Ok, Err, length}
 use Rattle.std.specs.Prelude.{◌⊎◌}
 use Rattle.js_arena.specs.declared.value.CellNo.{CellNo}
 use Rattle.js_arena.specs.declared.value.Value.{Value}
@@ -16,12 +16,12 @@ use Rattle.js_json_values.proofs.Said.{near_followed, near_closed}
 
 -- an array or an object that is being written, behind what stands before it: w is what was written of its entries, and
 -- what is left of them is the rest
-record Piece (c : ℕ) (h : Heap) (over : Bool) (rest : ℕ → Rest) (at : CellNo) (array : Bool) (from : ℕ) (below full : List ℕ) : Type 0 where
-  w : List ℕ
-  is : full ≡ below ++ (open_unit array ∷ w)
-  place : over ≡ false → from ≡ length below
-  kind : shape_of (value.Cell at) h ≡ holder array at
-  says : (k : ℕ) → Near c k (entries_text (said k h) false (entries_at at h)) (before w (rest k))
+pub record Piece (c : ℕ) (h : Heap) (over : Bool) (rest : ℕ → Rest) (at : CellNo) (array : Bool) (from : ℕ) (below full : List ℕ) : Type 0 where
+  pub w : List ℕ
+  pub is : full ≡ below ++ (open_unit array ∷ w)
+  pub place : over ≡ false → from ≡ length below
+  pub kind : shape_of (value.Cell at) h ≡ holder array at
+  pub says : (k : ℕ) → Near c k (entries_text (said k h) false (entries_at at h)) (before w (rest k))
 
 -- the entries that are left
 abbrev pub own : Heap → Frame → ℕ → Rest
@@ -124,12 +124,12 @@ first_chain h root over at array from kind same place =
 -- ---- an end
 
 -- the text of the innermost once its bracket is closed
-record Closed (c : ℕ) (h : Heap) (over : Bool) (at : CellNo) (from : ℕ) (full : List ℕ) : Type 0 where
-  below : List ℕ
-  text : List ℕ
-  is : full ≡ below ++ text
-  place : over ≡ false → from ≡ length below
-  says : (k : ℕ) → Near c k (said k h (value.Cell at)) (says text)
+pub record Closed (c : ℕ) (h : Heap) (over : Bool) (at : CellNo) (from : ℕ) (full : List ℕ) : Type 0 where
+  pub below : List ℕ
+  pub text : List ℕ
+  pub is : full ≡ below ++ text
+  pub place : over ≡ false → from ≡ length below
+  pub says : (k : ℕ) → Near c k (said k h (value.Cell at)) (says text)
 
 closed_piece : (c : ℕ) (h : Heap) (over : Bool) (rest : ℕ → Rest) (at : CellNo) (array : Bool) (from : ℕ) (below full : List ℕ)
     → ((k : ℕ) → rest k ≡ Ok []) → Piece c h over rest at array from below full

@@ -8,8 +8,8 @@ use Rattle.js_arena.specs.declared.value.Cell.TheVariants.{Text as TextCell}
 use Rattle.js_arena.specs.declared.value.OpEnd.{OpEnd}
 use Rattle.js_arena.specs.declared.value.OpEnd.TheVariants.{Throw, Full, NoMemory}
 use Rattle.js_arena.specs.declared.value.Value.{Value}
-use Rattle.js_arena.specs.Heap.{Heap, fits}
-use Rattle.js_arena.specs.Units.{units}
+use Rattle.js_arena.specs.declared.value.Value.TheVariants as value
+use Rattle.js_arena.specs.Heap.{Heap, with_cell}
 use Rattle.js_ops.specs.Ops.{Ops, text_in}
 use Rattle.js_json_values.specs.declared.kinds.Outcome.{Outcome}
 use Rattle.js_json_values.specs.declared.kinds.Outcome.TheVariants as outcome
@@ -72,9 +72,13 @@ flat h v n room t o e c =
 not_fits : (taken room limit n : ℕ) → taken + room ≡ limit → room < n → nat_le (taken + (4 + n)) limit ≡ false
 not_fits taken room limit n e l = grind (arith, nat_tests)
 
+abbrev made_text : Heap → Result Value OpEnd
+made_text h = Ok (value.Text (record { 0 = length h.cells }))
+
 too_long : (h : Heap) (room : ℕ) (t : List ℕ) → h.taken + room ≡ h.limit → room < length t → text_in t h ≡ (h, Err Full)
 too_long h room t e l =
-    ap (λ (b : Bool). if b then _ else (h, Err Full)) (not_fits h.taken room h.limit (length t) e l)
+    ap (λ (b : Bool). if b then (with_cell (TextCell t) h, made_text h) else (h, Err Full))
+        (not_fits h.taken room h.limit (length t) e l)
 
 same_in : (h : Heap) (s : Said) (room : ℕ) (o : Outcome) → h.taken + room ≡ h.limit → Came s room o → outcome_in o h ≡ said_in s h
 same_in h s room (outcome.Text t) e c = ap (λ (z : Said). said_in z h) (sym c)

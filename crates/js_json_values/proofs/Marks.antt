@@ -1,6 +1,6 @@
 -- What is known of cells, as it changes.
 use Rattle.std.proofs.Common.{◌≡◌, ◌∙◌, ap, refl, sym, subst, ℕ, zero, suc, ◌+◌, ◌-◌, ◌≤◌, ◌<◌, Bool, true, false, List, [], ◌∷◌, ◌++◌}
-use Rattle.std.proofs.Common.{inl, inr, append_assoc, arith, Option, Some, None, absurd, length, take, drop}
+use Rattle.std.proofs.Common.{inl, inr, append_assoc, arith, Option, Some, None, length, take, drop}
 use Rattle.std.specs.Prelude.{◌⊎◌, slice_get, slice_set, nat_lt, if◌then◌else◌}
 use Rattle.std.proofs.Math.Nat.{le_trans}
 use Rattle.std.proofs.lemmas.Bool.{cases_lt, lt-ltb, le-ltb}

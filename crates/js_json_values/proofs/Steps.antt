@@ -1,6 +1,6 @@
 -- Each step of the walk keeps what was written true.
 use Rattle.std.proofs.Common.{◌≡◌, ◌∙◌, ap, refl, sym, subst, ℕ, zero, suc, ◌+◌, ◌-◌, ◌≤◌, ◌<◌, Bool, true, false, List, [], ◌∷◌, ◌++◌}
-use Rattle.std.proofs.Common.{inl, inr, append_assoc, arith, Option, Some, None, Ok, Err, absurd, length}
+use Rattle.std.proofs.Common.{inl, inr, append_assoc, arith, Option, Some, None, Ok, Err, length}
 use Rattle.std.specs.Prelude.{◌⊎◌, slice_get, slice_set, replicate}
 use Rattle.std.proofs.lemmas.List.{append-nil, length-append, length-set, length-replicate}
 use Rattle.std.proofs.lemmas.Bool.{cases_lt}
@@ -34,16 +34,16 @@ use Rattle.js_json_values.proofs.Chains.{first_chain, refused_chain, In, loop_ch
 -- ---- what is known
 
 -- the value that is in a cell
-abbrev cell : ℕ → Value
+abbrev pub cell : ℕ → Value
 cell i = value.Cell (record { 0 = i })
 
 -- one of those that are being written
-abbrev InFrames : ℕ → List Frame → Type 0
+abbrev pub InFrames : ℕ → List Frame → Type 0
 InFrames i [] = ⊥
 InFrames i (f ∷ fs) = In i f.no fs
 
 -- what a mark tells: the cell is being written, or it has a text, which stands there while the page is not over
-abbrev MarkHolds : ℕ → Heap → List Frame → Page → ℕ → Mark → Type 0
+abbrev pub MarkHolds : ℕ → Heap → List Frame → Page → ℕ → Mark → Type 0
 MarkHolds c h frames page i Unseen = Unit {0}
 MarkHolds c h frames page i Open = InFrames i frames
 MarkHolds c h frames page i (Done from to) =
@@ -51,7 +51,7 @@ MarkHolds c h frames page i (Done from to) =
     × (page.over ≡ false → (part from to page.text ≡ t) × (to ≤ length page.text))
 
 -- each mark tells the truth
-abbrev Known : ℕ → Heap → List Frame → Page → List Mark → Type 0
+abbrev pub Known : ℕ → Heap → List Frame → Page → List Mark → Type 0
 Known c h frames page marks = (i : ℕ) (m : Mark) → slice_get marks i ≡ Some m → MarkHolds c h frames page i m
 
 part_kept : (page p : Page) (from to : ℕ) (t x : List ℕ) → p.text ≡ page.text ++ x
@@ -72,14 +72,14 @@ mark_later c d h frames others page p i (Done from to) l f g w =
 
 -- ---- what holds while one array or object at least is being written, of which this is left
 
-record Under (h : Heap) (root : Value) (room : ℕ) (page : Page) (marks : List Mark) (rest : ℕ → Rest) (f : Frame) (fs : List Frame) : Type 0 where
-  c : ℕ
-  full : List ℕ
-  shows : Shows room page full
-  chain : Chain c h root page.over rest f.no f.array f.from fs full
-  known : Known c h (f ∷ fs) page marks
-  count : suc (length fs) + c + unseen marks ≤ length h.cells
-  size : length marks ≡ length h.cells
+pub record Under (h : Heap) (root : Value) (room : ℕ) (page : Page) (marks : List Mark) (rest : ℕ → Rest) (f : Frame) (fs : List Frame) : Type 0 where
+  pub c : ℕ
+  pub full : List ℕ
+  pub shows : Shows room page full
+  pub chain : Chain c h root page.over rest f.no f.array f.from fs full
+  pub known : Known c h (f ∷ fs) page marks
+  pub count : suc (length fs) + c + unseen marks ≤ length h.cells
+  pub size : length marks ≡ length h.cells
 
 -- the root has its text
 abbrev pub Whole : Heap → Value → ℕ → Page → Type 0
@@ -290,7 +290,7 @@ cell_within h b at e = elim (cases_lt at.0 (length h.cells)) [
   | inr l ↦ absurd (no_cell b at (ap (cell_shape at) (sym (slice_get_past h.cells at.0 l)) ∙ e))
 ]
 
-some_mark : Mark → Option Mark
+abbrev some_mark : Mark → Option Mark
 some_mark m = Some m
 
 mark_got : (ms : List Mark) (i : ℕ) (m : Mark) → i < length ms → or_unseen (slice_get ms i) ≡ m → slice_get ms i ≡ Some m
