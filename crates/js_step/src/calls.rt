@@ -10,7 +10,7 @@ pub struct Row {
 
 /// A call of a function with all its blocks: its `this`, their variables, and whether a function was
 /// evaluated in it, which may outlive it.
-#[derive(Debug, Drop)]
+#[derive(Drop)]
 pub struct Activation {
     pub this: Value,
     pub rows: Seq<Row>,

@@ -14,7 +14,7 @@ use wd_base::Seq;
 pub type Values = Seq<Value>;
 
 /// What begins without a node.
-#[derive(Debug, Drop)]
+#[derive(Drop)]
 pub enum Begin<N> {
     /// the script
     Script(N),
@@ -25,7 +25,7 @@ pub enum Begin<N> {
 }
 
 /// Operators that wait for an operand.
-#[derive(Debug, Drop)]
+#[derive(Drop)]
 pub enum OperatorFrame<N, E> {
     Unary(Unary),
     /// for the left operand, with the right one
@@ -40,7 +40,7 @@ pub enum OperatorFrame<N, E> {
 }
 
 /// Reads of members.
-#[derive(Debug, Drop)]
+#[derive(Drop)]
 pub enum MemberFrame<T, N, E> {
     /// for the object, with the name
     Field(T),
@@ -51,7 +51,7 @@ pub enum MemberFrame<T, N, E> {
 }
 
 /// Assignments and updates.
-#[derive(Debug, Drop)]
+#[derive(Drop)]
 pub enum WriteFrame<T, N, E> {
     /// for the value that a name gets
     Variable(T, E),
@@ -70,7 +70,7 @@ pub enum WriteFrame<T, N, E> {
 }
 
 /// Arrays and objects in the making.
-#[derive(Debug, Drop)]
+#[derive(Drop)]
 pub enum MakeFrame<T, N, E> {
     /// for an item of this array, with the items behind
     Item(CellNo, N, E),
@@ -79,7 +79,7 @@ pub enum MakeFrame<T, N, E> {
 }
 
 /// A function with its `this` and its arguments so far.
-#[derive(Debug, Drop)]
+#[derive(Drop)]
 pub struct Calling {
     pub function: Value,
     pub this: Value,
@@ -87,7 +87,7 @@ pub struct Calling {
 }
 
 /// Calls in the making.
-#[derive(Debug, Drop)]
+#[derive(Drop)]
 pub enum CallFrame<T, N, E> {
     /// for the callee, with the arguments' nodes
     Callee(N, E),
@@ -125,7 +125,7 @@ pub struct Each {
 }
 
 /// Statements without loops and `try`.
-#[derive(Debug, Drop)]
+#[derive(Drop)]
 pub enum StatementFrame<T, N, E> {
     /// for the end of a statement, with those behind
     Rest(N, E),
@@ -141,7 +141,7 @@ pub enum StatementFrame<T, N, E> {
 }
 
 /// Loops.
-#[derive(Debug, Drop)]
+#[derive(Drop)]
 pub enum LoopFrame<N, E> {
     /// for the test of a `while`: the test and the body
     WhileTest(N, N, E),
@@ -162,7 +162,7 @@ pub enum LoopFrame<N, E> {
 }
 
 /// `try`.
-#[derive(Debug, Drop)]
+#[derive(Drop)]
 pub enum TryFrame<N, E> {
     /// for the end of a block, with the clause of `catch`
     Catch(N, E),
@@ -173,7 +173,7 @@ pub enum TryFrame<N, E> {
 }
 
 /// Calls that run, by their numbers.
-#[derive(Debug, Drop)]
+#[derive(Drop)]
 pub enum BodyFrame {
     Plain(u32),
     /// of an async function, with the promise that its end settles
@@ -183,7 +183,7 @@ pub enum BodyFrame {
 }
 
 /// A frame.
-#[derive(Debug, Drop)]
+#[derive(Drop)]
 pub enum Frame<T, N, E> {
     /// a node that is to be entered
     Due(N, E),

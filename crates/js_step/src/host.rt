@@ -6,7 +6,7 @@ use std::alloc::Global;
 /// What a host's function gives: a value, or a call that the evaluator makes, of a function with its
 /// `this` and its arguments. Where the call carries a promise, that promise is the value of the
 /// expression, and what the call throws settles it.
-#[derive(Debug, Drop)]
+#[derive(Drop)]
 pub enum HostValue {
     Value(Value),
     Enter(Value, Value, Values, Option<PromiseNo>),
