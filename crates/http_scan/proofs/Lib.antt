@@ -1,4 +1,3 @@
 pub mod SectionLaws
 pub mod PlaceLaws
 pub mod RequestLaws
-pub mod ResponseLaws

@@ -1,13 +1,15 @@
 -- What requests and responses share of the places in a head.
 use Rattle.std.proofs.Common.{◌≡◌, ℕ, zero, suc, ◌+◌, ◌<◌, ◌≤◌, ◌==◌, Bool, true, false, ◌||◌, cond, nat_lt, List, [], ◌∷◌, ◌++◌, length, take, get_or, refl, sym, ap, ap₂, ◌∙◌, subst, arith, append_assoc}
-use Rattle.std.specs.Prelude.{slice_index}
-use Rattle.std.proofs.lemmas.Bool.{eqb-true, ltb-lt, ltb-le}
-use Rattle.std.proofs.lemmas.List.{take_more}
+use Rattle.std.specs.Prelude.{slice_index, IsUtf8}
+use Rattle.std.specs.Str.{is_utf8}
+use Rattle.std.proofs.lemmas.Str.{IsUtf8-from_is_utf8, is_utf8-from_IsUtf8}
+use Rattle.std.proofs.lemmas.Bool.{eqb-true, ltb-true, ltb-false, false≢true}
+use Rattle.std.proofs.lemmas.List.{take_more, take_all}
 use Rattle.httparse.specs.Grammar.{LineEnd, crlf, lf, print_end, print_blank, print_version}
 use Rattle.http_scan.specs.declared.section.Spot.TheVariants as spot
 use Rattle.http_scan.specs.declared.place.Place.{Place}
 use Rattle.http_scan.specs.declared.place.Place.TheVariants as place
-use Rattle.http_scan.specs.Place.{version_text, empty_line, in_version, line_end, line_feed, request_step, request_after, response_step, response_after}
+use Rattle.http_scan.specs.Place.{version_text, empty_line, in_version, line_end, line_feed, request_step, request_after, request_place, response_step, response_after, response_place}
 use Rattle.http_scan.proofs.SectionLaws.{by_cond}
 
 -- ---- one byte more
@@ -71,7 +73,7 @@ version_step P front t count x v more minor other =
     by_cond P (nat_lt count 7) (cond (x == slice_index version_text count) (place.Version (count + 1)) place.Other) (cond (x == 48 || x == 49) place.Minor place.Other)
     (λ e. by_cond P (x == slice_index version_text count) (place.Version (count + 1)) place.Other
     (λ f.
-    let low : count < 7 = ltb-lt count 7 e in
+    let low : count < 7 = ltb-true count 7 e in
     let b : x ≡ get_or version_text count 0 = eqb-true x (slice_index version_text count) f in
     more (count + 1) (record {
       few = omega (arith, low);
@@ -83,7 +85,7 @@ version_step P front t count x v more minor other =
     (λ f.
     let m = minor_of x (x == 48) refl f in
     let few = v.few in
-    let high : 7 ≤ count = ltb-le count 7 e in
+    let high : 7 ≤ count = ltb-false count 7 e in
     let all : count ≡ 7 = omega (arith, few, high) in
     minor (record {
       minor = m.0;
@@ -91,3 +93,28 @@ version_step P front t count x v more minor other =
       is = ap (λ z. z ++ x ∷ []) (v.is ∙ ap (λ n. front ++ take n version_text) all) ∙ append_assoc front version_text (x ∷ []) ∙ ap (λ y. front ++ (version_text ++ y ∷ [])) m.2;
     }))
     (λ f. other))
+
+-- ---- the place behind one byte more
+
+pub request_next : (b : List ℕ) (i : ℕ) (p q : Place) → i < length b → p ≡ request_place (take i b) → q ≡ request_step (take i b) p (slice_index b i) → q ≡ request_place (take (i + 1) b)
+request_next b i p q low at next =
+    next ∙ ap (λ z. request_step (take i b) z (slice_index b i)) at
+    ∙ sym (ap request_place (take_more b i 0 low) ∙ request_snoc [] place.Start (take i b) (get_or b i 0))
+
+pub response_next : (b : List ℕ) (i : ℕ) (p q : Place) → i < length b → p ≡ response_place (take i b) → q ≡ response_step p (slice_index b i) → q ≡ response_place (take (i + 1) b)
+response_next b i p q low at next =
+    next ∙ ap (λ z. response_step z (slice_index b i)) at
+    ∙ sym (ap response_place (take_more b i 0 low) ∙ response_snoc place.Start (take i b) (get_or b i 0))
+
+pub place_at : {A : Type 0} (f : List ℕ → A) (b : List ℕ) (i : ℕ) (p : A) → length b ≤ i → p ≡ f (take i b) → p ≡ f b
+place_at f b i p all at = at ∙ ap f (take_all i b all)
+
+-- ---- the test of a target
+
+pub utf8_same : (r : Bool) (b : List ℕ) → (r ≡ true → IsUtf8 b) → (IsUtf8 b → r ≡ true) → r ≡ is_utf8 b
+utf8_same true b to from = sym (is_utf8-from_IsUtf8 b (to refl))
+utf8_same false b to from = other (is_utf8 b) refl
+  where
+    other : (c : Bool) → is_utf8 b ≡ c → false ≡ is_utf8 b
+    other true e = absurd (false≢true (from (IsUtf8-from_is_utf8 b e)))
+    other false e = sym e

@@ -13,8 +13,8 @@ use Rattle.http_scan.specs.Section.{section_step}
 
 -- a fact of what a test chooses
 pub by_cond : {A : Type 0} (P : A → Type 0) (c : Bool) (a b : A) → (c ≡ true → P a) → (c ≡ false → P b) → P (cond c a b)
-by_cond P true a b yes no = yes refl
-by_cond P false a b yes no = no refl
+by_cond P true a b then other = then refl
+by_cond P false a b then other = other refl
 
 -- the text is field lines, and then this
 pub record HasLines (text tail : List ℕ) : Type 0 where
@@ -59,12 +59,6 @@ value_ends t tail more x end e =
     let f : Field = record { name = x.name; raw = x.raw; end = end } in
     lines_field (t ++ more) f (record { name = x.token; raw = x.pass }) (lines_as (t ++ more) (((x.name ++ 58 ∷ x.raw) ++ tail) ++ more) (print_field f) (sym e) (lines_more t ((x.name ++ 58 ∷ x.raw) ++ tail) more x.lines))
 
-regroup_lf : (name raw : List ℕ) → name ++ 58 ∷ (raw ++ 10 ∷ []) ≡ ((name ++ 58 ∷ raw) ++ []) ++ 10 ∷ []
-regroup_lf name raw = sym (append_assoc name (58 ∷ raw) (10 ∷ [])) ∙ ap (λ t. t ++ 10 ∷ []) (sym (append-nil (name ++ 58 ∷ raw)))
-
-regroup_crlf : (name raw : List ℕ) → name ++ 58 ∷ (raw ++ 13 ∷ 10 ∷ []) ≡ ((name ++ 58 ∷ raw) ++ 13 ∷ []) ++ 10 ∷ []
-regroup_crlf name raw = sym (append_assoc name (58 ∷ raw) (13 ∷ 10 ∷ [])) ∙ sym (append_assoc (name ++ 58 ∷ raw) (13 ∷ []) (10 ∷ []))
-
 -- ---- each byte
 
 in_name_from : (t u : List ℕ) (x : ℕ) → HasLines t u → AllPass is_token_byte u → is_token_byte x ≡ true → HasName (t ++ x ∷ [])
@@ -103,7 +97,7 @@ from_value t x v =
     by_cond P (x == 13) spot.Cr (cond (x == 10) spot.Start (cond (is_value_byte x) spot.Value spot.Out))
     (λ e. record { name = v.name; raw = v.raw; token = v.token; pass = v.pass; lines = lines_as (t ++ x ∷ []) (front ++ x ∷ []) (front ++ 13 ∷ []) (ap (λ b. front ++ b ∷ []) (eqb-true x 13 e)) plain })
     (λ e. by_cond P (x == 10) spot.Start (cond (is_value_byte x) spot.Value spot.Out)
-    (λ e'. subst (λ b. HasLines (t ++ b ∷ []) []) (sym (eqb-true x 10 e')) (value_ends t [] (10 ∷ []) v lf (regroup_lf v.name v.raw)))
+    (λ e'. subst (λ b. HasLines (t ++ b ∷ []) []) (sym (eqb-true x 10 e')) (value_ends t [] (10 ∷ []) v lf (ap (λ u. u ++ 10 ∷ []) (sym (append-nil (v.name ++ 58 ∷ v.raw))))))
     (λ e'. by_cond P (is_value_byte x) spot.Value spot.Out
     (λ f. record {
       name = v.name;
@@ -117,7 +111,7 @@ from_value t x v =
 from_cr : (t : List ℕ) (x : ℕ) → HasValue t (13 ∷ []) → IsIn (section_step spot.Cr x) (t ++ x ∷ [])
 from_cr t x v =
     by_cond (λ s. IsIn s (t ++ x ∷ [])) (x == 10) spot.Start spot.Out
-    (λ e. subst (λ b. HasLines (t ++ b ∷ []) []) (sym (eqb-true x 10 e)) (value_ends t (13 ∷ []) (10 ∷ []) v crlf (regroup_crlf v.name v.raw)))
+    (λ e. subst (λ b. HasLines (t ++ b ∷ []) []) (sym (eqb-true x 10 e)) (value_ends t (13 ∷ []) (10 ∷ []) v crlf (sym (append_assoc (v.name ++ 58 ∷ v.raw) (13 ∷ []) (10 ∷ [])))))
     (λ e. tt)
 
 pub in_step : (s : Spot) (t : List ℕ) (x : ℕ) → IsIn s t → IsIn (section_step s x) (t ++ x ∷ [])

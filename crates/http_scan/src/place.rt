@@ -1,8 +1,8 @@
-ghost use Rattle.std.specs.Prelude.{◌≡◌, ◌<◌, ◌≤◌, length, drop, take, slice_index};
+ghost use Rattle.std.specs.Prelude.{◌≡◌, ◌↔◌, ◌<◌, ◌≤◌, length, drop, take, slice_index, IsTrue, IsUtf8};
 ghost use Rattle.http_scan.specs.Place.{empty_line, in_method, is_target, behind_target, in_target, in_version};
 ghost use Rattle.http_scan.specs.Place.{line_end, line_feed, status_begin, in_code, in_reason};
 ghost use Rattle.http_scan.specs.Place.{request_step, response_step, is_open};
-ghost use Rattle.std.specs.Str.{is_utf8};
+
 
 use crate::section::{Spot, section_step};
 use httparse::{is_header_value_token, is_method_token, is_uri_token};
@@ -215,7 +215,7 @@ fn in_reason(byte: u8) -> Place
 }
 
 fn is_text(bytes: &[u8]) -> bool
-    ensures { result ≡ is_utf8 bytes.now }
+    ensures { IsTrue result ↔ IsUtf8 bytes.now }
 {
     std::str::from_utf8(bytes).is_ok()
 }
