@@ -1,3 +1,4 @@
 pub mod SectionLaws
 pub mod PlaceLaws
 pub mod RequestLaws
+pub mod ResponseLaws

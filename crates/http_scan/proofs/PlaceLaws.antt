@@ -1,15 +1,15 @@
 -- What requests and responses share of the places in a head.
-use Rattle.std.proofs.Common.{◌≡◌, ℕ, zero, suc, ◌+◌, ◌<◌, ◌≤◌, ◌==◌, Bool, true, false, ◌||◌, cond, nat_lt, List, [], ◌∷◌, ◌++◌, length, take, get_or, refl, sym, ap, ap₂, ◌∙◌, subst, arith, append_assoc}
+use Rattle.std.proofs.Common.{◌≡◌, ℕ, zero, suc, ◌+◌, ◌<◌, ◌≤◌, ◌==◌, Bool, true, false, ◌||◌, ◌&&◌, ◌-◌, cond, nat_lt, List, [], ◌∷◌, ◌++◌, length, take, drop, get_or, length-drop, refl, sym, ap, ap₂, ◌∙◌, subst, arith, append_assoc}
 use Rattle.std.specs.Prelude.{slice_index, IsUtf8}
 use Rattle.std.specs.Str.{is_utf8}
 use Rattle.std.proofs.lemmas.Str.{IsUtf8-from_is_utf8, is_utf8-from_IsUtf8}
-use Rattle.std.proofs.lemmas.Bool.{eqb-true, ltb-true, ltb-false, false≢true}
-use Rattle.std.proofs.lemmas.List.{take_more, take_all}
+use Rattle.std.proofs.lemmas.Bool.{eqb-true, ltb-true, ltb-false, false≢true, lt-ltb}
+use Rattle.std.proofs.lemmas.List.{take_more, take_all, drop-take, length-take-le}
 use Rattle.httparse.specs.Grammar.{LineEnd, crlf, lf, print_end, print_blank, print_version}
 use Rattle.http_scan.specs.declared.section.Spot.TheVariants as spot
 use Rattle.http_scan.specs.declared.place.Place.{Place}
 use Rattle.http_scan.specs.declared.place.Place.TheVariants as place
-use Rattle.http_scan.specs.Place.{version_text, empty_line, in_version, line_end, line_feed, request_step, request_after, request_place, response_step, response_after, response_place}
+use Rattle.http_scan.specs.Place.{is_target, version_text, empty_line, in_version, line_end, line_feed, request_step, request_after, request_place, response_step, response_after, response_place}
 use Rattle.http_scan.proofs.SectionLaws.{by_cond}
 
 -- ---- one byte more
@@ -118,3 +118,15 @@ utf8_same false b to from = other (is_utf8 b) refl
     other : (c : Bool) → is_utf8 b ≡ c → false ≡ is_utf8 b
     other true e = absurd (false≢true (from (IsUtf8-from_is_utf8 b e)))
     other false e = sym e
+
+-- the bytes between two places are tested
+pub target_tested : (b : List ℕ) (start at : ℕ) (r : Bool) → at ≤ length b → start < at → (r ≡ true → IsUtf8 (take (at - start) (drop start b))) → (IsUtf8 (take (at - start) (drop start b)) → r ≡ true) → r ≡ is_target (drop start (take at b))
+target_tested b start at r inside low to from =
+    let k : at ≡ start + (at - start) = omega (arith, low) in
+    let e : take (at - start) (drop start b) ≡ drop start (take at b) = sym (drop-take start (at - start) b) ∙ ap (λ n. drop start (take n b)) (sym k) in
+    let rest = length-drop start b in
+    let size : length (take (at - start) (drop start b)) ≡ at - start = length-take-le (at - start) (drop start b) (omega (arith, inside, rest)) in
+    let long : 0 < length (drop start (take at b)) = subst (λ t. 0 < length t) e (omega (arith, size, low)) in
+    let some : nat_lt 0 (length (drop start (take at b))) ≡ true = lt-ltb 0 (length (drop start (take at b))) long in
+    utf8_same r (drop start (take at b)) (λ t. subst IsUtf8 e (to t)) (λ u. from (subst IsUtf8 (sym e) u))
+    ∙ sym (ap (λ c. c && is_utf8 (drop start (take at b))) some)
